@@ -3,9 +3,9 @@
 ghost use Rattle.std.specs.Prelude.{map};
 ghost use Rattle.cbor_bench.specs.declared.record.TheConstants.{NAMES};
 
-use serde_cbor::de::{Deserialize, FromParts, Read, Readable, ReadableParts};
+use serde_cbor::de::{Deserialize, Read, ReadByParts, Readable, read_described};
 use serde_cbor::parts::Schema;
-use serde_cbor::ser::{PartsDocument, Serialize, Serializer, Write};
+use serde_cbor::ser::{Serialize, Serializer, Write, WrittenByParts};
 use serde_cbor::{Deserializer, Result};
 
 /// A record of six fields.
@@ -28,26 +28,11 @@ impl Schema for Record {
     ghost names = { map (λ n. n.now) NAMES.now };
 
     ghost parts = { λ r. (r.id, r.name, r.email, r.created, r.tags, r.active) };
-}
 
-impl Serialize for Record {
-    ghost document = { λ r. ⟦<<Record as Schema>::Parts as PartsDocument>⟧.document
-        ⟦<Record as Schema>⟧.names (⟦<Record as Schema>⟧.parts r) };
-
-    fn serialize<W: Write>(&self, ser: &mut Serializer<W>) -> Result<()> {
-        let fields = (
-            &self.id,
-            &self.name,
-            &self.email,
-            &self.created,
-            &self.tags,
-            &self.active,
-        );
-        ser.serialize_fields(NAMES, &fields)
+    fn names() -> &'static [&'static str] {
+        NAMES
     }
-}
 
-impl FromParts for Record {
     fn from_parts((id, name, email, created, tags, active): Self::Parts) -> Record {
         Record {
             id,
@@ -60,13 +45,30 @@ impl FromParts for Record {
     }
 }
 
+impl Serialize for Record {
+    ghost document = { ⟦<Record as WrittenByParts>⟧.document };
+
+    fn serialize<W: Write>(&self, ser: &mut Serializer<W>) -> Result<()> {
+        let fields = (
+            &self.id,
+            &self.name,
+            &self.email,
+            &self.created,
+            &self.tags,
+            &self.active,
+        );
+        ser.serialize_fields(self, &fields)
+    }
+}
+
 impl Readable for Record {
-    ghost reads = { λ c r x. ⟦<<Record as Schema>::Parts as ReadableParts>⟧.reads
-        ⟦<Record as Schema>⟧.names c r (⟦<Record as Schema>⟧.parts x) };
+    ghost reads = { ⟦<Record as ReadByParts>⟧.reads };
+
+    ghost wrong_forms = { ⟦<Record as ReadByParts>⟧.wrong_forms };
 }
 
 impl<'de, R: Read<'de>> Deserialize<'de, R> for Record {
     fn deserialize(de: &mut Deserializer<R>) -> Result<Record> {
-        Self::read_described(de, NAMES)
+        read_described(de)
     }
 }

@@ -1,9 +1,9 @@
 //! An enum of a struct of another, which holds an enum.
 
 use samples::nested::Example;
-use serde_cbor::de::{Deserialize, DeserializeOwned, FromParts, Read, Readable, ReadableParts};
+use serde_cbor::de::{Deserialize, DeserializeOwned, Read, ReadByParts, Readable, read_described};
 use serde_cbor::parts::{Newtype, OneOf2, Schema};
-use serde_cbor::ser::{PartsDocument, Serialize, Serializer, Write};
+use serde_cbor::ser::{Serialize, Serializer, Write, WrittenByParts};
 use serde_cbor::{Deserializer, Result};
 
 /// What is sent.
@@ -31,21 +31,11 @@ impl Schema for Message {
       | at.Ping ↦ one_of.first tt
       | at.Send x ↦ one_of.second (newtype x)
     ] };
-}
 
-impl Serialize for Message {
-    ghost document = { λ x. ⟦<<Message as Schema>::Parts as PartsDocument>⟧.document
-        ⟦<Message as Schema>⟧.names (⟦<Message as Schema>⟧.parts x) };
-
-    fn serialize<W: Write>(&self, ser: &mut Serializer<W>) -> Result<()> {
-        match self {
-            Message::Ping => ser.serialize_variant(MESSAGE, 0, &()),
-            Message::Send(x) => ser.serialize_variant(MESSAGE, 1, &Newtype(x)),
-        }
+    fn names() -> &'static [&'static str] {
+        MESSAGE
     }
-}
 
-impl FromParts for Message {
     fn from_parts(from: Self::Parts) -> Message {
         match from {
             OneOf2::First(()) => Message::Ping,
@@ -54,14 +44,26 @@ impl FromParts for Message {
     }
 }
 
+impl Serialize for Message {
+    ghost document = { ⟦<Message as WrittenByParts>⟧.document };
+
+    fn serialize<W: Write>(&self, ser: &mut Serializer<W>) -> Result<()> {
+        match self {
+            Message::Ping => ser.serialize_variant(self, 0, &()),
+            Message::Send(x) => ser.serialize_variant(self, 1, &Newtype(x)),
+        }
+    }
+}
+
 impl Readable for Message {
-    ghost reads = { λ c r x. ⟦<<Message as Schema>::Parts as ReadableParts>⟧.reads
-        ⟦<Message as Schema>⟧.names c r (⟦<Message as Schema>⟧.parts x) };
+    ghost reads = { ⟦<Message as ReadByParts>⟧.reads };
+
+    ghost wrong_forms = { ⟦<Message as ReadByParts>⟧.wrong_forms };
 }
 
 impl<'de, R: Read<'de>> Deserialize<'de, R> for Message {
     fn deserialize(de: &mut Deserializer<R>) -> Result<Message> {
-        Self::read_described(de, MESSAGE)
+        read_described(de)
     }
 }
 

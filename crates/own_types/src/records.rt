@@ -1,15 +1,15 @@
 //! Structs.
 
-ghost use Rattle.std.specs.Prelude.{[], map};
+ghost use Rattle.std.specs.Prelude.{◌≡◌, [], length, map, refl};
 ghost use Rattle.serde_cbor.specs.Schemas.{newtype, optional, or_default};
 ghost use Rattle.own_types.specs.declared.records.TheConstants.{LABEL, PAIR, READING, SETTINGS};
 ghost use Rattle.own_types.specs.declared.records.TheConstants.{USER};
 
 use serde_cbor::bytes::ByteArray;
-use serde_cbor::de::{Deserialize, DeserializeOwned, FromParts, Read, Readable, ReadableParts};
+use serde_cbor::de::{Deserialize, DeserializeOwned, Read, ReadByParts, Readable, read_described};
 use serde_cbor::parts::{Newtype, Optional, OrDefault, Schema};
-use serde_cbor::round_trip::PartsRoundTrip;
-use serde_cbor::ser::{OptionalField, PartsDocument, Serialize, Serializer, Write};
+use serde_cbor::round_trip::RoundTripByParts;
+use serde_cbor::ser::{OptionalField, Serialize, Serializer, Write, WrittenByParts};
 use serde_cbor::{Deserializer, Result, RoundTrip};
 
 /// Who may log in.
@@ -28,31 +28,33 @@ impl Schema for User {
     ghost names = { map (λ n. n.now) USER.now };
 
     ghost parts = { λ u. (u.user_id, u.admin) };
-}
 
-impl Serialize for User {
-    ghost document = { λ u. ⟦<<User as Schema>::Parts as PartsDocument>⟧.document
-        ⟦<User as Schema>⟧.names (⟦<User as Schema>⟧.parts u) };
-
-    fn serialize<W: Write>(&self, ser: &mut Serializer<W>) -> Result<()> {
-        ser.serialize_fields(USER, &(&self.user_id, &self.admin))
+    fn names() -> &'static [&'static str] {
+        USER
     }
-}
 
-impl FromParts for User {
     fn from_parts((user_id, admin): Self::Parts) -> User {
         User { user_id, admin }
     }
 }
 
+impl Serialize for User {
+    ghost document = { ⟦<User as WrittenByParts>⟧.document };
+
+    fn serialize<W: Write>(&self, ser: &mut Serializer<W>) -> Result<()> {
+        ser.serialize_fields(self, &(&self.user_id, &self.admin))
+    }
+}
+
 impl Readable for User {
-    ghost reads = { λ c r u. ⟦<<User as Schema>::Parts as ReadableParts>⟧.reads
-        ⟦<User as Schema>⟧.names c r (⟦<User as Schema>⟧.parts u) };
+    ghost reads = { ⟦<User as ReadByParts>⟧.reads };
+
+    ghost wrong_forms = { ⟦<User as ReadByParts>⟧.wrong_forms };
 }
 
 impl<'de, R: Read<'de>> Deserialize<'de, R> for User {
     fn deserialize(de: &mut Deserializer<R>) -> Result<User> {
-        Self::read_described(de, USER)
+        read_described(de)
     }
 }
 
@@ -61,11 +63,7 @@ impl DeserializeOwned for User {
 }
 
 impl RoundTrip for User {
-    ghost use Rattle.std.specs.Prelude.{refl};
-    ghost use Rattle.serde_cbor.specs.TypeLaws.{by_description};
-
-    ghost law = { by_description ⟦<User as Schema>⟧.names ⟦<User as Schema>⟧.parts
-        ⟦<<User as Schema>::Parts as PartsRoundTrip>⟧.law refl refl };
+    ghost law = { ⟦<User as RoundTripByParts>⟧.law.by_names refl refl };
 
     ghost back = { Self.law.back };
 }
@@ -86,31 +84,33 @@ impl Schema for Reading {
     ghost names = { map (λ n. n.now) READING.now };
 
     ghost parts = { λ r. (r.sensor, r.degrees) };
-}
 
-impl Serialize for Reading {
-    ghost document = { λ r. ⟦<<Reading as Schema>::Parts as PartsDocument>⟧.document
-        ⟦<Reading as Schema>⟧.names (⟦<Reading as Schema>⟧.parts r) };
-
-    fn serialize<W: Write>(&self, ser: &mut Serializer<W>) -> Result<()> {
-        ser.serialize_fields(READING, &(&self.sensor, &self.degrees))
+    fn names() -> &'static [&'static str] {
+        READING
     }
-}
 
-impl FromParts for Reading {
     fn from_parts((sensor, degrees): Self::Parts) -> Reading {
         Reading { sensor, degrees }
     }
 }
 
+impl Serialize for Reading {
+    ghost document = { ⟦<Reading as WrittenByParts>⟧.document };
+
+    fn serialize<W: Write>(&self, ser: &mut Serializer<W>) -> Result<()> {
+        ser.serialize_fields(self, &(&self.sensor, &self.degrees))
+    }
+}
+
 impl Readable for Reading {
-    ghost reads = { λ c r x. ⟦<<Reading as Schema>::Parts as ReadableParts>⟧.reads
-        ⟦<Reading as Schema>⟧.names c r (⟦<Reading as Schema>⟧.parts x) };
+    ghost reads = { ⟦<Reading as ReadByParts>⟧.reads };
+
+    ghost wrong_forms = { ⟦<Reading as ReadByParts>⟧.wrong_forms };
 }
 
 impl<'de, R: Read<'de>> Deserialize<'de, R> for Reading {
     fn deserialize(de: &mut Deserializer<R>) -> Result<Reading> {
-        Self::read_described(de, READING)
+        read_described(de)
     }
 }
 
@@ -131,19 +131,11 @@ impl Schema for Settings {
     ghost names = { map (λ n. n.now) SETTINGS.now };
 
     ghost parts = { λ s. (s.port, optional s.limit, or_default s.verbose) };
-}
 
-impl Serialize for Settings {
-    ghost document = { λ s. ⟦<<Settings as Schema>::Parts as PartsDocument>⟧.document
-        ⟦<Settings as Schema>⟧.names (⟦<Settings as Schema>⟧.parts s) };
-
-    fn serialize<W: Write>(&self, ser: &mut Serializer<W>) -> Result<()> {
-        let fields = (&self.port, OptionalField(&self.limit), &self.verbose);
-        ser.serialize_fields(SETTINGS, &fields)
+    fn names() -> &'static [&'static str] {
+        SETTINGS
     }
-}
 
-impl FromParts for Settings {
     fn from_parts((port, limit, verbose): Self::Parts) -> Settings {
         Settings {
             port,
@@ -153,16 +145,24 @@ impl FromParts for Settings {
     }
 }
 
-impl Readable for Settings {
-    ghost reads = { λ c r s. ⟦<<Settings as Schema>::Parts as ReadableParts>⟧.reads
-        ⟦<Settings as Schema>⟧.names c r (⟦<Settings as Schema>⟧.parts s) };
+impl Serialize for Settings {
+    ghost document = { ⟦<Settings as WrittenByParts>⟧.document };
 
-    ghost wrong_forms = { ⟦<<Settings as Schema>::Parts as ReadableParts>⟧.wrong_forms };
+    fn serialize<W: Write>(&self, ser: &mut Serializer<W>) -> Result<()> {
+        let fields = (&self.port, OptionalField(&self.limit), &self.verbose);
+        ser.serialize_fields(self, &fields)
+    }
+}
+
+impl Readable for Settings {
+    ghost reads = { ⟦<Settings as ReadByParts>⟧.reads };
+
+    ghost wrong_forms = { ⟦<Settings as ReadByParts>⟧.wrong_forms };
 }
 
 impl<'de, R: Read<'de>> Deserialize<'de, R> for Settings {
     fn deserialize(de: &mut Deserializer<R>) -> Result<Settings> {
-        Self::read_described(de, SETTINGS)
+        read_described(de)
     }
 }
 
@@ -171,11 +171,7 @@ impl DeserializeOwned for Settings {
 }
 
 impl RoundTrip for Settings {
-    ghost use Rattle.std.specs.Prelude.{refl};
-    ghost use Rattle.serde_cbor.specs.TypeLaws.{by_description};
-
-    ghost law = { by_description ⟦<Settings as Schema>⟧.names ⟦<Settings as Schema>⟧.parts
-        ⟦<<Settings as Schema>::Parts as PartsRoundTrip>⟧.law refl refl };
+    ghost law = { ⟦<Settings as RoundTripByParts>⟧.law.by_names refl refl };
 
     ghost back = { Self.law.back };
 }
@@ -196,22 +192,28 @@ impl<'a> Schema for Label<'a> {
     ghost names = { map (λ n. n.now) LABEL.now };
 
     ghost parts = { λ l. (l.name, l.size) };
-}
 
-impl<'a> FromParts for Label<'a> {
+    fn names() -> &'static [&'static str]
+        ensures names { map (λ n. n.now) result.now ≡ map (λ n. n.now) LABEL.now }
+        ensures as_many { length result.now ≡ 2 }
+    {
+        LABEL
+    }
+
     fn from_parts((name, size): (&'a str, u8)) -> Label<'a> {
         Label { name, size }
     }
 }
 
 impl<'a> Readable for Label<'a> {
-    ghost reads = { λ c r l. ⟦<(&'a str, u8) as ReadableParts>⟧.reads
-        ⟦<Label<'a> as Schema>⟧.names c r (⟦<Label<'a> as Schema>⟧.parts l) };
+    ghost reads = { ⟦<Label<'a> as ReadByParts>⟧.reads };
+
+    ghost wrong_forms = { ⟦<Label<'a> as ReadByParts>⟧.wrong_forms };
 }
 
 impl<'de, R: Read<'de>> Deserialize<'de, R> for Label<'de> {
     fn deserialize(de: &mut Deserializer<R>) -> Result<Label<'de>> {
-        Self::read_described(de, LABEL)
+        read_described(de)
     }
 }
 
@@ -231,31 +233,33 @@ impl<T: Drop> Schema for Pair<T> {
     ghost names = { map (λ n. n.now) PAIR.now };
 
     ghost parts = { λ p. (p.first, p.second) };
-}
 
-impl<T: Serialize + Drop> Serialize for Pair<T> {
-    ghost document = { λ p. ⟦<(T, T) as PartsDocument>⟧.document
-        ⟦<Pair<T> as Schema>⟧.names (⟦<Pair<T> as Schema>⟧.parts p) };
-
-    fn serialize<W: Write>(&self, ser: &mut Serializer<W>) -> Result<()> {
-        ser.serialize_fields(PAIR, &(&self.first, &self.second))
+    fn names() -> &'static [&'static str] {
+        PAIR
     }
-}
 
-impl<T: Drop> FromParts for Pair<T> {
     fn from_parts((first, second): (T, T)) -> Pair<T> {
         Pair { first, second }
     }
 }
 
+impl<T: Serialize + Drop> Serialize for Pair<T> {
+    ghost document = { ⟦<Pair<T> as WrittenByParts>⟧.document };
+
+    fn serialize<W: Write>(&self, ser: &mut Serializer<W>) -> Result<()> {
+        ser.serialize_fields(self, &(&self.first, &self.second))
+    }
+}
+
 impl<T: Readable> Readable for Pair<T> {
-    ghost reads = { λ c r p. ⟦<(T, T) as ReadableParts>⟧.reads
-        ⟦<Pair<T> as Schema>⟧.names c r (⟦<Pair<T> as Schema>⟧.parts p) };
+    ghost reads = { ⟦<Pair<T> as ReadByParts>⟧.reads };
+
+    ghost wrong_forms = { ⟦<Pair<T> as ReadByParts>⟧.wrong_forms };
 }
 
 impl<'de, R: Read<'de>, T: Deserialize<'de, R>> Deserialize<'de, R> for Pair<T> {
     fn deserialize(de: &mut Deserializer<R>) -> Result<Pair<T>> {
-        Self::read_described(de, PAIR)
+        read_described(de)
     }
 }
 
@@ -269,31 +273,33 @@ impl Schema for Metres {
     ghost names = { [] };
 
     ghost parts = { λ m. newtype m.0 };
+
+    fn names() -> &'static [&'static str] {
+        &[]
+    }
+
+    fn from_parts(Newtype(metres): Self::Parts) -> Metres {
+        Metres(metres)
+    }
 }
 
 impl Serialize for Metres {
-    ghost document = { λ m. ⟦<<Metres as Schema>::Parts as PartsDocument>⟧.document
-        ⟦<Metres as Schema>⟧.names (⟦<Metres as Schema>⟧.parts m) };
+    ghost document = { ⟦<Metres as WrittenByParts>⟧.document };
 
     fn serialize<W: Write>(&self, ser: &mut Serializer<W>) -> Result<()> {
         ser.serialize_newtype_struct("Metres", &self.0)
     }
 }
 
-impl FromParts for Metres {
-    fn from_parts(Newtype(metres): Self::Parts) -> Metres {
-        Metres(metres)
-    }
-}
-
 impl Readable for Metres {
-    ghost reads = { λ c r m. ⟦<<Metres as Schema>::Parts as ReadableParts>⟧.reads
-        ⟦<Metres as Schema>⟧.names c r (⟦<Metres as Schema>⟧.parts m) };
+    ghost reads = { ⟦<Metres as ReadByParts>⟧.reads };
+
+    ghost wrong_forms = { ⟦<Metres as ReadByParts>⟧.wrong_forms };
 }
 
 impl<'de, R: Read<'de>> Deserialize<'de, R> for Metres {
     fn deserialize(de: &mut Deserializer<R>) -> Result<Metres> {
-        Self::read_described(de, &[])
+        read_described(de)
     }
 }
 
@@ -302,11 +308,7 @@ impl DeserializeOwned for Metres {
 }
 
 impl RoundTrip for Metres {
-    ghost use Rattle.std.specs.Prelude.{refl};
-    ghost use Rattle.serde_cbor.specs.TypeLaws.{by_description};
-
-    ghost law = { by_description ⟦<Metres as Schema>⟧.names ⟦<Metres as Schema>⟧.parts
-        ⟦<<Metres as Schema>::Parts as PartsRoundTrip>⟧.law refl refl };
+    ghost law = { ⟦<Metres as RoundTripByParts>⟧.law.by_names refl refl };
 
     ghost back = { Self.law.back };
 }

@@ -1,13 +1,13 @@
 //! An enum with a variant of each kind.
 
-ghost use Rattle.std.specs.Prelude.{map};
+ghost use Rattle.std.specs.Prelude.{map, refl};
 ghost use Rattle.serde_cbor.specs.Schemas.{newtype, structure, tuple};
 ghost use Rattle.own_types.specs.declared.shapes.TheConstants.{SHAPE, SQUARE};
 
-use serde_cbor::de::{Deserialize, DeserializeOwned, FromParts, Read, Readable, ReadableParts};
+use serde_cbor::de::{Deserialize, DeserializeOwned, Read, ReadByParts, Readable, read_described};
 use serde_cbor::parts::{FieldNames, Newtype, OneOf4, Schema, Struct, Tuple};
-use serde_cbor::round_trip::PartsRoundTrip;
-use serde_cbor::ser::{NamedFields, PartsDocument, Serialize, Serializer, Write};
+use serde_cbor::round_trip::RoundTripByParts;
+use serde_cbor::ser::{NamedFields, Serialize, Serializer, Write, WrittenByParts};
 use serde_cbor::{Deserializer, Result, RoundTrip};
 
 /// What is drawn.
@@ -26,7 +26,8 @@ const SHAPE: &[&str] = &["Nothing", "Circle", "Line", "Square"];
 const SQUARE: &[&str] = &["side", "filled"];
 
 /// The fields of a square.
-pub enum SquareFields {}
+#[derive(Drop)]
+pub struct SquareFields;
 
 impl FieldNames for SquareFields {
     type Parts = (u32, bool);
@@ -52,25 +53,11 @@ impl Schema for Shape {
       | shape.Line x y ↦ one_of.third (tuple (x, y))
       | shape.Square side filled ↦ one_of.fourth (structure (side, filled))
     ] };
-}
 
-impl Serialize for Shape {
-    ghost document = { λ s. ⟦<<Shape as Schema>::Parts as PartsDocument>⟧.document
-        ⟦<Shape as Schema>⟧.names (⟦<Shape as Schema>⟧.parts s) };
-
-    fn serialize<W: Write>(&self, ser: &mut Serializer<W>) -> Result<()> {
-        match self {
-            Shape::Nothing => ser.serialize_variant(SHAPE, 0, &()),
-            Shape::Circle(radius) => ser.serialize_variant(SHAPE, 1, &Newtype(radius)),
-            Shape::Line(x, y) => ser.serialize_variant(SHAPE, 2, &Tuple((x, y))),
-            Shape::Square { side, filled } => {
-                ser.serialize_variant(SHAPE, 3, &NamedFields(SQUARE, (side, filled)))
-            }
-        }
+    fn names() -> &'static [&'static str] {
+        SHAPE
     }
-}
 
-impl FromParts for Shape {
     fn from_parts(from: Self::Parts) -> Shape {
         match from {
             OneOf4::First(()) => Shape::Nothing,
@@ -87,14 +74,30 @@ impl FromParts for Shape {
     }
 }
 
+impl Serialize for Shape {
+    ghost document = { ⟦<Shape as WrittenByParts>⟧.document };
+
+    fn serialize<W: Write>(&self, ser: &mut Serializer<W>) -> Result<()> {
+        match self {
+            Shape::Nothing => ser.serialize_variant(self, 0, &()),
+            Shape::Circle(radius) => ser.serialize_variant(self, 1, &Newtype(radius)),
+            Shape::Line(x, y) => ser.serialize_variant(self, 2, &Tuple((x, y))),
+            Shape::Square { side, filled } => {
+                ser.serialize_variant(self, 3, &NamedFields(SquareFields, (side, filled)))
+            }
+        }
+    }
+}
+
 impl Readable for Shape {
-    ghost reads = { λ c r s. ⟦<<Shape as Schema>::Parts as ReadableParts>⟧.reads
-        ⟦<Shape as Schema>⟧.names c r (⟦<Shape as Schema>⟧.parts s) };
+    ghost reads = { ⟦<Shape as ReadByParts>⟧.reads };
+
+    ghost wrong_forms = { ⟦<Shape as ReadByParts>⟧.wrong_forms };
 }
 
 impl<'de, R: Read<'de>> Deserialize<'de, R> for Shape {
     fn deserialize(de: &mut Deserializer<R>) -> Result<Shape> {
-        Self::read_described(de, SHAPE)
+        read_described(de)
     }
 }
 
@@ -103,11 +106,7 @@ impl DeserializeOwned for Shape {
 }
 
 impl RoundTrip for Shape {
-    ghost use Rattle.std.specs.Prelude.{refl};
-    ghost use Rattle.serde_cbor.specs.TypeLaws.{by_description};
-
-    ghost law = { by_description ⟦<Shape as Schema>⟧.names ⟦<Shape as Schema>⟧.parts
-        ⟦<<Shape as Schema>::Parts as PartsRoundTrip>⟧.law refl refl };
+    ghost law = { ⟦<Shape as RoundTripByParts>⟧.law.by_names refl refl };
 
     ghost back = { Self.law.back };
 }

@@ -2,9 +2,9 @@
 
 use crate::structs::UnitStruct;
 use serde_cbor::bytes::ByteBuf;
-use serde_cbor::de::{Deserialize, DeserializeOwned, FromParts, Read, Readable, ReadableParts};
+use serde_cbor::de::{Deserialize, DeserializeOwned, Read, ReadByParts, Readable, read_described};
 use serde_cbor::parts::Schema;
-use serde_cbor::ser::{PartsDocument, Serialize, Serializer, Write};
+use serde_cbor::ser::{Serialize, Serializer, Write, WrittenByParts};
 use serde_cbor::{Deserializer, Result};
 use std::collections::BTreeMap;
 
@@ -46,26 +46,11 @@ impl Schema for Assorted {
     ghost names = { map (λ n. n.now) ASSORTED.now };
 
     ghost parts = { λ a. (a.tuple_struct, a.tuple, a.map, a.bytes, a.array, a.unit_array) };
-}
 
-impl Serialize for Assorted {
-    ghost document = { λ x. ⟦<<Assorted as Schema>::Parts as PartsDocument>⟧.document
-        ⟦<Assorted as Schema>⟧.names (⟦<Assorted as Schema>⟧.parts x) };
-
-    fn serialize<W: Write>(&self, ser: &mut Serializer<W>) -> Result<()> {
-        let fields = (
-            &self.tuple_struct,
-            &self.tuple,
-            &self.map,
-            &self.bytes,
-            &self.array,
-            &self.unit_array,
-        );
-        ser.serialize_fields(ASSORTED, &fields)
+    fn names() -> &'static [&'static str] {
+        ASSORTED
     }
-}
 
-impl FromParts for Assorted {
     fn from_parts((tuple_struct, tuple, map, bytes, array, unit_array): Self::Parts) -> Assorted {
         Assorted {
             tuple_struct,
@@ -78,14 +63,31 @@ impl FromParts for Assorted {
     }
 }
 
+impl Serialize for Assorted {
+    ghost document = { ⟦<Assorted as WrittenByParts>⟧.document };
+
+    fn serialize<W: Write>(&self, ser: &mut Serializer<W>) -> Result<()> {
+        let fields = (
+            &self.tuple_struct,
+            &self.tuple,
+            &self.map,
+            &self.bytes,
+            &self.array,
+            &self.unit_array,
+        );
+        ser.serialize_fields(self, &fields)
+    }
+}
+
 impl Readable for Assorted {
-    ghost reads = { λ c r x. ⟦<<Assorted as Schema>::Parts as ReadableParts>⟧.reads
-        ⟦<Assorted as Schema>⟧.names c r (⟦<Assorted as Schema>⟧.parts x) };
+    ghost reads = { ⟦<Assorted as ReadByParts>⟧.reads };
+
+    ghost wrong_forms = { ⟦<Assorted as ReadByParts>⟧.wrong_forms };
 }
 
 impl<'de, R: Read<'de>> Deserialize<'de, R> for Assorted {
     fn deserialize(de: &mut Deserializer<R>) -> Result<Assorted> {
-        Self::read_described(de, ASSORTED)
+        read_described(de)
     }
 }
 

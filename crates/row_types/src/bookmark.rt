@@ -3,9 +3,9 @@
 ghost use Rattle.std.specs.Prelude.{IsTrue, IsFalse};
 ghost use Rattle.row_types.specs.Uris.{IsKnown};
 
-use serde_cbor::de::{Deserialize, DeserializeOwned, FromParts, Read, Readable, ReadableParts};
+use serde_cbor::de::{Deserialize, DeserializeOwned, Read, ReadByParts, Readable, read_described};
 use serde_cbor::parts::Schema;
-use serde_cbor::ser::{PartsDocument, Serialize, Serializer, Write};
+use serde_cbor::ser::{Serialize, Serializer, Write, WrittenByParts};
 use serde_cbor::tags::Tagged;
 use serde_cbor::{Deserializer, Error, Result};
 
@@ -80,18 +80,11 @@ impl Schema for Bookmark {
     ghost names = { map (λ n. n.now) BOOKMARK.now };
 
     ghost parts = { λ b. (b.title, b.link, b.created) };
-}
 
-impl Serialize for Bookmark {
-    ghost document = { λ x. ⟦<<Bookmark as Schema>::Parts as PartsDocument>⟧.document
-        ⟦<Bookmark as Schema>⟧.names (⟦<Bookmark as Schema>⟧.parts x) };
-
-    fn serialize<W: Write>(&self, ser: &mut Serializer<W>) -> Result<()> {
-        ser.serialize_fields(BOOKMARK, &(&self.title, &self.link, &self.created))
+    fn names() -> &'static [&'static str] {
+        BOOKMARK
     }
-}
 
-impl FromParts for Bookmark {
     fn from_parts((title, link, created): Self::Parts) -> Bookmark {
         Bookmark {
             title,
@@ -101,14 +94,23 @@ impl FromParts for Bookmark {
     }
 }
 
+impl Serialize for Bookmark {
+    ghost document = { ⟦<Bookmark as WrittenByParts>⟧.document };
+
+    fn serialize<W: Write>(&self, ser: &mut Serializer<W>) -> Result<()> {
+        ser.serialize_fields(self, &(&self.title, &self.link, &self.created))
+    }
+}
+
 impl Readable for Bookmark {
-    ghost reads = { λ c r x. ⟦<<Bookmark as Schema>::Parts as ReadableParts>⟧.reads
-        ⟦<Bookmark as Schema>⟧.names c r (⟦<Bookmark as Schema>⟧.parts x) };
+    ghost reads = { ⟦<Bookmark as ReadByParts>⟧.reads };
+
+    ghost wrong_forms = { ⟦<Bookmark as ReadByParts>⟧.wrong_forms };
 }
 
 impl<'de, R: Read<'de>> Deserialize<'de, R> for Bookmark {
     fn deserialize(de: &mut Deserializer<R>) -> Result<Bookmark> {
-        Self::read_described(de, BOOKMARK)
+        read_described(de)
     }
 }
 

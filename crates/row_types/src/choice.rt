@@ -1,8 +1,8 @@
 //! An enum of a unit and a newtype variant.
 
-use serde_cbor::de::{Deserialize, DeserializeOwned, FromParts, Read, Readable, ReadableParts};
+use serde_cbor::de::{Deserialize, DeserializeOwned, Read, ReadByParts, Readable, read_described};
 use serde_cbor::parts::{Newtype, OneOf2, Schema};
-use serde_cbor::ser::{PartsDocument, Serialize, Serializer, Write};
+use serde_cbor::ser::{Serialize, Serializer, Write, WrittenByParts};
 use serde_cbor::{Deserializer, Result};
 
 /// An enum of which one variant holds a number.
@@ -30,21 +30,11 @@ impl Schema for Choice {
       | at.Unit ↦ one_of.first tt
       | at.NewType n ↦ one_of.second (newtype n)
     ] };
-}
 
-impl Serialize for Choice {
-    ghost document = { λ x. ⟦<<Choice as Schema>::Parts as PartsDocument>⟧.document
-        ⟦<Choice as Schema>⟧.names (⟦<Choice as Schema>⟧.parts x) };
-
-    fn serialize<W: Write>(&self, ser: &mut Serializer<W>) -> Result<()> {
-        match self {
-            Choice::Unit => ser.serialize_variant(CHOICE, 0, &()),
-            Choice::NewType(n) => ser.serialize_variant(CHOICE, 1, &Newtype(n)),
-        }
+    fn names() -> &'static [&'static str] {
+        CHOICE
     }
-}
 
-impl FromParts for Choice {
     fn from_parts(from: Self::Parts) -> Choice {
         match from {
             OneOf2::First(()) => Choice::Unit,
@@ -53,14 +43,26 @@ impl FromParts for Choice {
     }
 }
 
+impl Serialize for Choice {
+    ghost document = { ⟦<Choice as WrittenByParts>⟧.document };
+
+    fn serialize<W: Write>(&self, ser: &mut Serializer<W>) -> Result<()> {
+        match self {
+            Choice::Unit => ser.serialize_variant(self, 0, &()),
+            Choice::NewType(n) => ser.serialize_variant(self, 1, &Newtype(n)),
+        }
+    }
+}
+
 impl Readable for Choice {
-    ghost reads = { λ c r x. ⟦<<Choice as Schema>::Parts as ReadableParts>⟧.reads
-        ⟦<Choice as Schema>⟧.names c r (⟦<Choice as Schema>⟧.parts x) };
+    ghost reads = { ⟦<Choice as ReadByParts>⟧.reads };
+
+    ghost wrong_forms = { ⟦<Choice as ReadByParts>⟧.wrong_forms };
 }
 
 impl<'de, R: Read<'de>> Deserialize<'de, R> for Choice {
     fn deserialize(de: &mut Deserializer<R>) -> Result<Choice> {
-        Self::read_described(de, CHOICE)
+        read_described(de)
     }
 }
 

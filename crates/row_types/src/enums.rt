@@ -1,8 +1,8 @@
 //! Enums, with variants of each kind.
 
-use serde_cbor::de::{Deserialize, DeserializeOwned, FromParts, Read, Readable, ReadableParts};
+use serde_cbor::de::{Deserialize, DeserializeOwned, Read, ReadByParts, Readable, read_described};
 use serde_cbor::parts::{FieldNames, Newtype, OneOf1, OneOf2, OneOf3, Schema, Struct, Tuple};
-use serde_cbor::ser::{NamedFields, PartsDocument, Serialize, Serializer, Write};
+use serde_cbor::ser::{NamedFields, Serialize, Serializer, Write, WrittenByParts};
 use serde_cbor::{Deserializer, Result};
 
 #[derive(Debug, Drop)]
@@ -16,7 +16,8 @@ pub enum DataEnum {
 const DATA: &[&str] = &["A", "B", "C"];
 
 /// The named fields of its last variant.
-pub enum DataFields {}
+#[derive(Drop)]
+pub struct DataFields;
 
 const POINT: &[&str] = &["x", "y"];
 
@@ -49,22 +50,11 @@ impl Schema for DataEnum {
       | at.B a b ↦ one_of.second (tuple (a, b))
       | at.C x y ↦ one_of.third (structure (x, y))
     ] };
-}
 
-impl Serialize for DataEnum {
-    ghost document = { λ x. ⟦<<DataEnum as Schema>::Parts as PartsDocument>⟧.document
-        ⟦<DataEnum as Schema>⟧.names (⟦<DataEnum as Schema>⟧.parts x) };
-
-    fn serialize<W: Write>(&self, ser: &mut Serializer<W>) -> Result<()> {
-        match self {
-            DataEnum::A(n) => ser.serialize_variant(DATA, 0, &Newtype(n)),
-            DataEnum::B(a, b) => ser.serialize_variant(DATA, 1, &Tuple((a, b))),
-            DataEnum::C { x, y } => ser.serialize_variant(DATA, 2, &NamedFields(POINT, (x, y))),
-        }
+    fn names() -> &'static [&'static str] {
+        DATA
     }
-}
 
-impl FromParts for DataEnum {
     fn from_parts(from: Self::Parts) -> DataEnum {
         match from {
             OneOf3::First(Newtype(n)) => DataEnum::A(n),
@@ -80,14 +70,31 @@ impl FromParts for DataEnum {
     }
 }
 
+impl Serialize for DataEnum {
+    ghost document = { ⟦<DataEnum as WrittenByParts>⟧.document };
+
+    fn serialize<W: Write>(&self, ser: &mut Serializer<W>) -> Result<()> {
+        match self {
+            DataEnum::A(n) => ser.serialize_variant(self, 0, &Newtype(n)),
+            DataEnum::B(a, b) => ser.serialize_variant(self, 1, &Tuple((a, b))),
+            DataEnum::C { x, y } => ser.serialize_variant(
+                self,
+                2,
+                &NamedFields(DataFields, (x, y)),
+            ),
+        }
+    }
+}
+
 impl Readable for DataEnum {
-    ghost reads = { λ c r x. ⟦<<DataEnum as Schema>::Parts as ReadableParts>⟧.reads
-        ⟦<DataEnum as Schema>⟧.names c r (⟦<DataEnum as Schema>⟧.parts x) };
+    ghost reads = { ⟦<DataEnum as ReadByParts>⟧.reads };
+
+    ghost wrong_forms = { ⟦<DataEnum as ReadByParts>⟧.wrong_forms };
 }
 
 impl<'de, R: Read<'de>> Deserialize<'de, R> for DataEnum {
     fn deserialize(de: &mut Deserializer<R>) -> Result<DataEnum> {
-        Self::read_described(de, DATA)
+        read_described(de)
     }
 }
 
@@ -119,21 +126,11 @@ impl Schema for TwoVariants {
       | at.FirstVariant ↦ one_of.first tt
       | at.SecondVariant n ↦ one_of.second (newtype n)
     ] };
-}
 
-impl Serialize for TwoVariants {
-    ghost document = { λ x. ⟦<<TwoVariants as Schema>::Parts as PartsDocument>⟧.document
-        ⟦<TwoVariants as Schema>⟧.names (⟦<TwoVariants as Schema>⟧.parts x) };
-
-    fn serialize<W: Write>(&self, ser: &mut Serializer<W>) -> Result<()> {
-        match self {
-            TwoVariants::FirstVariant => ser.serialize_variant(TWO, 0, &()),
-            TwoVariants::SecondVariant(n) => ser.serialize_variant(TWO, 1, &Newtype(n)),
-        }
+    fn names() -> &'static [&'static str] {
+        TWO
     }
-}
 
-impl FromParts for TwoVariants {
     fn from_parts(from: Self::Parts) -> TwoVariants {
         match from {
             OneOf2::First(()) => TwoVariants::FirstVariant,
@@ -142,14 +139,26 @@ impl FromParts for TwoVariants {
     }
 }
 
+impl Serialize for TwoVariants {
+    ghost document = { ⟦<TwoVariants as WrittenByParts>⟧.document };
+
+    fn serialize<W: Write>(&self, ser: &mut Serializer<W>) -> Result<()> {
+        match self {
+            TwoVariants::FirstVariant => ser.serialize_variant(self, 0, &()),
+            TwoVariants::SecondVariant(n) => ser.serialize_variant(self, 1, &Newtype(n)),
+        }
+    }
+}
+
 impl Readable for TwoVariants {
-    ghost reads = { λ c r x. ⟦<<TwoVariants as Schema>::Parts as ReadableParts>⟧.reads
-        ⟦<TwoVariants as Schema>⟧.names c r (⟦<TwoVariants as Schema>⟧.parts x) };
+    ghost reads = { ⟦<TwoVariants as ReadByParts>⟧.reads };
+
+    ghost wrong_forms = { ⟦<TwoVariants as ReadByParts>⟧.wrong_forms };
 }
 
 impl<'de, R: Read<'de>> Deserialize<'de, R> for TwoVariants {
     fn deserialize(de: &mut Deserializer<R>) -> Result<TwoVariants> {
-        Self::read_described(de, TWO)
+        read_described(de)
     }
 }
 
@@ -179,20 +188,11 @@ impl Schema for Wish {
     ghost parts = { elim [
       | at.Require ↦ one_of.first tt
     ] };
-}
 
-impl Serialize for Wish {
-    ghost document = { λ x. ⟦<<Wish as Schema>::Parts as PartsDocument>⟧.document
-        ⟦<Wish as Schema>⟧.names (⟦<Wish as Schema>⟧.parts x) };
-
-    fn serialize<W: Write>(&self, ser: &mut Serializer<W>) -> Result<()> {
-        match self {
-            Wish::Require => ser.serialize_variant(WISH, 0, &()),
-        }
+    fn names() -> &'static [&'static str] {
+        WISH
     }
-}
 
-impl FromParts for Wish {
     fn from_parts(from: Self::Parts) -> Wish {
         match from {
             OneOf1::First(()) => Wish::Require,
@@ -200,14 +200,25 @@ impl FromParts for Wish {
     }
 }
 
+impl Serialize for Wish {
+    ghost document = { ⟦<Wish as WrittenByParts>⟧.document };
+
+    fn serialize<W: Write>(&self, ser: &mut Serializer<W>) -> Result<()> {
+        match self {
+            Wish::Require => ser.serialize_variant(self, 0, &()),
+        }
+    }
+}
+
 impl Readable for Wish {
-    ghost reads = { λ c r x. ⟦<<Wish as Schema>::Parts as ReadableParts>⟧.reads
-        ⟦<Wish as Schema>⟧.names c r (⟦<Wish as Schema>⟧.parts x) };
+    ghost reads = { ⟦<Wish as ReadByParts>⟧.reads };
+
+    ghost wrong_forms = { ⟦<Wish as ReadByParts>⟧.wrong_forms };
 }
 
 impl<'de, R: Read<'de>> Deserialize<'de, R> for Wish {
     fn deserialize(de: &mut Deserializer<R>) -> Result<Wish> {
-        Self::read_described(de, WISH)
+        read_described(de)
     }
 }
 

@@ -1,8 +1,8 @@
 //! An enum that holds a float.
 
-use serde_cbor::de::{Deserialize, DeserializeOwned, FromParts, Read, Readable, ReadableParts};
+use serde_cbor::de::{Deserialize, DeserializeOwned, Read, ReadByParts, Readable, read_described};
 use serde_cbor::parts::{Newtype, OneOf1, Schema};
-use serde_cbor::ser::{PartsDocument, Serialize, Serializer, Write};
+use serde_cbor::ser::{Serialize, Serializer, Write, WrittenByParts};
 use serde_cbor::value::Float;
 use serde_cbor::{Deserializer, Result};
 
@@ -29,33 +29,35 @@ impl Schema for FloatEnum {
     ghost parts = { elim [
       | at.Alpha x ↦ one_of.first (newtype x)
     ] };
-}
 
-impl Serialize for FloatEnum {
-    ghost document = { λ x. ⟦<<FloatEnum as Schema>::Parts as PartsDocument>⟧.document
-        ⟦<FloatEnum as Schema>⟧.names (⟦<FloatEnum as Schema>⟧.parts x) };
-
-    fn serialize<W: Write>(&self, ser: &mut Serializer<W>) -> Result<()> {
-        let FloatEnum::Alpha(x) = self;
-        ser.serialize_variant(FLOAT, 0, &Newtype(x))
+    fn names() -> &'static [&'static str] {
+        FLOAT
     }
-}
 
-impl FromParts for FloatEnum {
     fn from_parts(from: Self::Parts) -> FloatEnum {
         let OneOf1::First(Newtype(x)) = from;
         FloatEnum::Alpha(x)
     }
 }
 
+impl Serialize for FloatEnum {
+    ghost document = { ⟦<FloatEnum as WrittenByParts>⟧.document };
+
+    fn serialize<W: Write>(&self, ser: &mut Serializer<W>) -> Result<()> {
+        let FloatEnum::Alpha(x) = self;
+        ser.serialize_variant(self, 0, &Newtype(x))
+    }
+}
+
 impl Readable for FloatEnum {
-    ghost reads = { λ c r x. ⟦<<FloatEnum as Schema>::Parts as ReadableParts>⟧.reads
-        ⟦<FloatEnum as Schema>⟧.names c r (⟦<FloatEnum as Schema>⟧.parts x) };
+    ghost reads = { ⟦<FloatEnum as ReadByParts>⟧.reads };
+
+    ghost wrong_forms = { ⟦<FloatEnum as ReadByParts>⟧.wrong_forms };
 }
 
 impl<'de, R: Read<'de>> Deserialize<'de, R> for FloatEnum {
     fn deserialize(de: &mut Deserializer<R>) -> Result<FloatEnum> {
-        Self::read_described(de, FLOAT)
+        read_described(de)
     }
 }
 

@@ -1,8 +1,8 @@
 //! Enums of units, and structs that hold one.
 
-use serde_cbor::de::{Deserialize, DeserializeOwned, FromParts, Read, Readable, ReadableParts};
+use serde_cbor::de::{Deserialize, DeserializeOwned, Read, ReadByParts, Readable, read_described};
 use serde_cbor::parts::{OneOf2, Schema};
-use serde_cbor::ser::{PartsDocument, Serialize, Serializer, Write};
+use serde_cbor::ser::{Serialize, Serializer, Write, WrittenByParts};
 use serde_cbor::{Deserializer, Result};
 
 /// A letter.
@@ -29,21 +29,11 @@ impl Schema for Letter {
       | at.A ↦ one_of.first tt
       | at.B ↦ one_of.second tt
     ] };
-}
 
-impl Serialize for Letter {
-    ghost document = { λ x. ⟦<<Letter as Schema>::Parts as PartsDocument>⟧.document
-        ⟦<Letter as Schema>⟧.names (⟦<Letter as Schema>⟧.parts x) };
-
-    fn serialize<W: Write>(&self, ser: &mut Serializer<W>) -> Result<()> {
-        match self {
-            Letter::A => ser.serialize_variant(LETTER, 0, &()),
-            Letter::B => ser.serialize_variant(LETTER, 1, &()),
-        }
+    fn names() -> &'static [&'static str] {
+        LETTER
     }
-}
 
-impl FromParts for Letter {
     fn from_parts(from: Self::Parts) -> Letter {
         match from {
             OneOf2::First(()) => Letter::A,
@@ -52,14 +42,26 @@ impl FromParts for Letter {
     }
 }
 
+impl Serialize for Letter {
+    ghost document = { ⟦<Letter as WrittenByParts>⟧.document };
+
+    fn serialize<W: Write>(&self, ser: &mut Serializer<W>) -> Result<()> {
+        match self {
+            Letter::A => ser.serialize_variant(self, 0, &()),
+            Letter::B => ser.serialize_variant(self, 1, &()),
+        }
+    }
+}
+
 impl Readable for Letter {
-    ghost reads = { λ c r x. ⟦<<Letter as Schema>::Parts as ReadableParts>⟧.reads
-        ⟦<Letter as Schema>⟧.names c r (⟦<Letter as Schema>⟧.parts x) };
+    ghost reads = { ⟦<Letter as ReadByParts>⟧.reads };
+
+    ghost wrong_forms = { ⟦<Letter as ReadByParts>⟧.wrong_forms };
 }
 
 impl<'de, R: Read<'de>> Deserialize<'de, R> for Letter {
     fn deserialize(de: &mut Deserializer<R>) -> Result<Letter> {
-        Self::read_described(de, LETTER)
+        read_described(de)
     }
 }
 
@@ -91,21 +93,11 @@ impl Schema for ReprEnum {
       | at.A ↦ one_of.first tt
       | at.B ↦ one_of.second tt
     ] };
-}
 
-impl Serialize for ReprEnum {
-    ghost document = { λ x. ⟦<<ReprEnum as Schema>::Parts as PartsDocument>⟧.document
-        ⟦<ReprEnum as Schema>⟧.names (⟦<ReprEnum as Schema>⟧.parts x) };
-
-    fn serialize<W: Write>(&self, ser: &mut Serializer<W>) -> Result<()> {
-        match self {
-            ReprEnum::A => ser.serialize_variant(REPR, 0, &()),
-            ReprEnum::B => ser.serialize_variant(REPR, 1, &()),
-        }
+    fn names() -> &'static [&'static str] {
+        REPR
     }
-}
 
-impl FromParts for ReprEnum {
     fn from_parts(from: Self::Parts) -> ReprEnum {
         match from {
             OneOf2::First(()) => ReprEnum::A,
@@ -114,14 +106,26 @@ impl FromParts for ReprEnum {
     }
 }
 
+impl Serialize for ReprEnum {
+    ghost document = { ⟦<ReprEnum as WrittenByParts>⟧.document };
+
+    fn serialize<W: Write>(&self, ser: &mut Serializer<W>) -> Result<()> {
+        match self {
+            ReprEnum::A => ser.serialize_variant(self, 0, &()),
+            ReprEnum::B => ser.serialize_variant(self, 1, &()),
+        }
+    }
+}
+
 impl Readable for ReprEnum {
-    ghost reads = { λ c r x. ⟦<<ReprEnum as Schema>::Parts as ReadableParts>⟧.reads
-        ⟦<ReprEnum as Schema>⟧.names c r (⟦<ReprEnum as Schema>⟧.parts x) };
+    ghost reads = { ⟦<ReprEnum as ReadByParts>⟧.reads };
+
+    ghost wrong_forms = { ⟦<ReprEnum as ReadByParts>⟧.wrong_forms };
 }
 
 impl<'de, R: Read<'de>> Deserialize<'de, R> for ReprEnum {
     fn deserialize(de: &mut Deserializer<R>) -> Result<ReprEnum> {
-        Self::read_described(de, REPR)
+        read_described(de)
     }
 }
 
@@ -147,31 +151,33 @@ impl Schema for EnumStruct {
     ghost names = { map (λ n. n.now) ENUM_FIELD.now };
 
     ghost parts = { λ s. record { 0 = s.e } };
-}
 
-impl Serialize for EnumStruct {
-    ghost document = { λ x. ⟦<<EnumStruct as Schema>::Parts as PartsDocument>⟧.document
-        ⟦<EnumStruct as Schema>⟧.names (⟦<EnumStruct as Schema>⟧.parts x) };
-
-    fn serialize<W: Write>(&self, ser: &mut Serializer<W>) -> Result<()> {
-        ser.serialize_fields(ENUM_FIELD, &(&self.e,))
+    fn names() -> &'static [&'static str] {
+        ENUM_FIELD
     }
-}
 
-impl FromParts for EnumStruct {
     fn from_parts((e,): Self::Parts) -> EnumStruct {
         EnumStruct { e }
     }
 }
 
+impl Serialize for EnumStruct {
+    ghost document = { ⟦<EnumStruct as WrittenByParts>⟧.document };
+
+    fn serialize<W: Write>(&self, ser: &mut Serializer<W>) -> Result<()> {
+        ser.serialize_fields(self, &(&self.e,))
+    }
+}
+
 impl Readable for EnumStruct {
-    ghost reads = { λ c r x. ⟦<<EnumStruct as Schema>::Parts as ReadableParts>⟧.reads
-        ⟦<EnumStruct as Schema>⟧.names c r (⟦<EnumStruct as Schema>⟧.parts x) };
+    ghost reads = { ⟦<EnumStruct as ReadByParts>⟧.reads };
+
+    ghost wrong_forms = { ⟦<EnumStruct as ReadByParts>⟧.wrong_forms };
 }
 
 impl<'de, R: Read<'de>> Deserialize<'de, R> for EnumStruct {
     fn deserialize(de: &mut Deserializer<R>) -> Result<EnumStruct> {
-        Self::read_described(de, ENUM_FIELD)
+        read_described(de)
     }
 }
 
@@ -197,31 +203,33 @@ impl Schema for ReprEnumStruct {
     ghost names = { map (λ n. n.now) REPR_FIELD.now };
 
     ghost parts = { λ s. record { 0 = s.e } };
-}
 
-impl Serialize for ReprEnumStruct {
-    ghost document = { λ x. ⟦<<ReprEnumStruct as Schema>::Parts as PartsDocument>⟧.document
-        ⟦<ReprEnumStruct as Schema>⟧.names (⟦<ReprEnumStruct as Schema>⟧.parts x) };
-
-    fn serialize<W: Write>(&self, ser: &mut Serializer<W>) -> Result<()> {
-        ser.serialize_fields(REPR_FIELD, &(&self.e,))
+    fn names() -> &'static [&'static str] {
+        REPR_FIELD
     }
-}
 
-impl FromParts for ReprEnumStruct {
     fn from_parts((e,): Self::Parts) -> ReprEnumStruct {
         ReprEnumStruct { e }
     }
 }
 
+impl Serialize for ReprEnumStruct {
+    ghost document = { ⟦<ReprEnumStruct as WrittenByParts>⟧.document };
+
+    fn serialize<W: Write>(&self, ser: &mut Serializer<W>) -> Result<()> {
+        ser.serialize_fields(self, &(&self.e,))
+    }
+}
+
 impl Readable for ReprEnumStruct {
-    ghost reads = { λ c r x. ⟦<<ReprEnumStruct as Schema>::Parts as ReadableParts>⟧.reads
-        ⟦<ReprEnumStruct as Schema>⟧.names c r (⟦<ReprEnumStruct as Schema>⟧.parts x) };
+    ghost reads = { ⟦<ReprEnumStruct as ReadByParts>⟧.reads };
+
+    ghost wrong_forms = { ⟦<ReprEnumStruct as ReadByParts>⟧.wrong_forms };
 }
 
 impl<'de, R: Read<'de>> Deserialize<'de, R> for ReprEnumStruct {
     fn deserialize(de: &mut Deserializer<R>) -> Result<ReprEnumStruct> {
-        Self::read_described(de, REPR_FIELD)
+        read_described(de)
     }
 }
 

@@ -4,9 +4,9 @@ ghost use Rattle.std.specs.Prelude.{map};
 ghost use Rattle.serde_cbor.specs.Schemas.{optional, or_default};
 ghost use Rattle.row_types.specs.declared.optional.TheConstants.{PAIR, SETTINGS};
 
-use serde_cbor::de::{Deserialize, DeserializeOwned, FromParts, Read, Readable, ReadableParts};
+use serde_cbor::de::{Deserialize, DeserializeOwned, Read, ReadByParts, Readable, read_described};
 use serde_cbor::parts::{Optional, OrDefault, Schema};
-use serde_cbor::ser::{OptionalField, PartsDocument, Serialize, Serializer, Write};
+use serde_cbor::ser::{OptionalField, Serialize, Serializer, Write, WrittenByParts};
 use serde_cbor::{Deserializer, Result};
 
 /// What a server is set to, of which only the port has to be given.
@@ -26,19 +26,11 @@ impl Schema for Settings {
     ghost names = { map (λ n. n.now) SETTINGS.now };
 
     ghost parts = { λ s. (s.port, optional s.limit, or_default s.verbose) };
-}
 
-impl Serialize for Settings {
-    ghost document = { λ s. ⟦<<Settings as Schema>::Parts as PartsDocument>⟧.document
-        ⟦<Settings as Schema>⟧.names (⟦<Settings as Schema>⟧.parts s) };
-
-    fn serialize<W: Write>(&self, ser: &mut Serializer<W>) -> Result<()> {
-        let fields = (&self.port, OptionalField(&self.limit), &self.verbose);
-        ser.serialize_fields(SETTINGS, &fields)
+    fn names() -> &'static [&'static str] {
+        SETTINGS
     }
-}
 
-impl FromParts for Settings {
     fn from_parts((port, limit, verbose): Self::Parts) -> Settings {
         Settings {
             port,
@@ -48,14 +40,24 @@ impl FromParts for Settings {
     }
 }
 
+impl Serialize for Settings {
+    ghost document = { ⟦<Settings as WrittenByParts>⟧.document };
+
+    fn serialize<W: Write>(&self, ser: &mut Serializer<W>) -> Result<()> {
+        let fields = (&self.port, OptionalField(&self.limit), &self.verbose);
+        ser.serialize_fields(self, &fields)
+    }
+}
+
 impl Readable for Settings {
-    ghost reads = { λ c r s. ⟦<<Settings as Schema>::Parts as ReadableParts>⟧.reads
-        ⟦<Settings as Schema>⟧.names c r (⟦<Settings as Schema>⟧.parts s) };
+    ghost reads = { ⟦<Settings as ReadByParts>⟧.reads };
+
+    ghost wrong_forms = { ⟦<Settings as ReadByParts>⟧.wrong_forms };
 }
 
 impl<'de, R: Read<'de>> Deserialize<'de, R> for Settings {
     fn deserialize(de: &mut Deserializer<R>) -> Result<Settings> {
-        Self::read_described(de, SETTINGS)
+        read_described(de)
     }
 }
 
@@ -75,30 +77,32 @@ impl<T: Drop> Schema for Pair<T> {
     ghost names = { map (λ n. n.now) PAIR.now };
 
     ghost parts = { λ p. (p.first, p.second) };
-}
 
-impl<T: Serialize + Drop> Serialize for Pair<T> {
-    ghost document = { λ p. ⟦<(T, T) as PartsDocument>⟧.document
-        ⟦<Pair<T> as Schema>⟧.names (⟦<Pair<T> as Schema>⟧.parts p) };
-
-    fn serialize<W: Write>(&self, ser: &mut Serializer<W>) -> Result<()> {
-        ser.serialize_fields(PAIR, &(&self.first, &self.second))
+    fn names() -> &'static [&'static str] {
+        PAIR
     }
-}
 
-impl<T: Drop> FromParts for Pair<T> {
     fn from_parts((first, second): (T, T)) -> Pair<T> {
         Pair { first, second }
     }
 }
 
+impl<T: Serialize + Drop> Serialize for Pair<T> {
+    ghost document = { ⟦<Pair<T> as WrittenByParts>⟧.document };
+
+    fn serialize<W: Write>(&self, ser: &mut Serializer<W>) -> Result<()> {
+        ser.serialize_fields(self, &(&self.first, &self.second))
+    }
+}
+
 impl<T: Readable> Readable for Pair<T> {
-    ghost reads = { λ c r p. ⟦<(T, T) as ReadableParts>⟧.reads
-        ⟦<Pair<T> as Schema>⟧.names c r (⟦<Pair<T> as Schema>⟧.parts p) };
+    ghost reads = { ⟦<Pair<T> as ReadByParts>⟧.reads };
+
+    ghost wrong_forms = { ⟦<Pair<T> as ReadByParts>⟧.wrong_forms };
 }
 
 impl<'de, R: Read<'de>, T: Deserialize<'de, R>> Deserialize<'de, R> for Pair<T> {
     fn deserialize(de: &mut Deserializer<R>) -> Result<Pair<T>> {
-        Self::read_described(de, PAIR)
+        read_described(de)
     }
 }

@@ -1,9 +1,9 @@
 //! A struct of a field that may be absent, one of an unnamed part, one of none, and one of names of
 //! one letter.
 
-use serde_cbor::de::{Deserialize, DeserializeOwned, FromParts, Read, Readable, ReadableParts};
+use serde_cbor::de::{Deserialize, DeserializeOwned, Read, ReadByParts, Readable, read_described};
 use serde_cbor::parts::{Newtype, Optional, Schema};
-use serde_cbor::ser::{OptionalField, PartsDocument, Serialize, Serializer, Write};
+use serde_cbor::ser::{OptionalField, Serialize, Serializer, Write, WrittenByParts};
 use serde_cbor::{Deserializer, Result};
 
 /// A struct of which a field is left out where it isn't known.
@@ -27,23 +27,11 @@ impl Schema for OptionalPerson {
     ghost names = { map (λ n. n.now) OPTIONAL_PERSON.now };
 
     ghost parts = { λ p. (p.name, optional p.year_of_birth, p.profession) };
-}
 
-impl Serialize for OptionalPerson {
-    ghost document = { λ x. ⟦<<OptionalPerson as Schema>::Parts as PartsDocument>⟧.document
-        ⟦<OptionalPerson as Schema>⟧.names (⟦<OptionalPerson as Schema>⟧.parts x) };
-
-    fn serialize<W: Write>(&self, ser: &mut Serializer<W>) -> Result<()> {
-        let fields = (
-            &self.name,
-            OptionalField(&self.year_of_birth),
-            &self.profession,
-        );
-        ser.serialize_fields(OPTIONAL_PERSON, &fields)
+    fn names() -> &'static [&'static str] {
+        OPTIONAL_PERSON
     }
-}
 
-impl FromParts for OptionalPerson {
     fn from_parts((name, year_of_birth, profession): Self::Parts) -> OptionalPerson {
         OptionalPerson {
             name,
@@ -53,14 +41,28 @@ impl FromParts for OptionalPerson {
     }
 }
 
+impl Serialize for OptionalPerson {
+    ghost document = { ⟦<OptionalPerson as WrittenByParts>⟧.document };
+
+    fn serialize<W: Write>(&self, ser: &mut Serializer<W>) -> Result<()> {
+        let fields = (
+            &self.name,
+            OptionalField(&self.year_of_birth),
+            &self.profession,
+        );
+        ser.serialize_fields(self, &fields)
+    }
+}
+
 impl Readable for OptionalPerson {
-    ghost reads = { λ c r x. ⟦<<OptionalPerson as Schema>::Parts as ReadableParts>⟧.reads
-        ⟦<OptionalPerson as Schema>⟧.names c r (⟦<OptionalPerson as Schema>⟧.parts x) };
+    ghost reads = { ⟦<OptionalPerson as ReadByParts>⟧.reads };
+
+    ghost wrong_forms = { ⟦<OptionalPerson as ReadByParts>⟧.wrong_forms };
 }
 
 impl<'de, R: Read<'de>> Deserialize<'de, R> for OptionalPerson {
     fn deserialize(de: &mut Deserializer<R>) -> Result<OptionalPerson> {
-        Self::read_described(de, OPTIONAL_PERSON)
+        read_described(de)
     }
 }
 
@@ -81,29 +83,33 @@ impl<T: Drop> Schema for NewtypeStruct<T> {
     ghost names = { [] };
 
     ghost parts = { λ n. newtype n.0 };
+
+    fn names() -> &'static [&'static str] {
+        &[]
+    }
+
+    fn from_parts(Newtype(part): Newtype<T>) -> NewtypeStruct<T> {
+        NewtypeStruct(part)
+    }
 }
 
 impl<T: Serialize + Drop> Serialize for NewtypeStruct<T> {
-    ghost document = { λ n. T.document n.0 };
+    ghost document = { ⟦<NewtypeStruct<T> as WrittenByParts>⟧.document };
 
     fn serialize<W: Write>(&self, ser: &mut Serializer<W>) -> Result<()> {
         ser.serialize_newtype_struct("NewtypeStruct", &self.0)
     }
 }
 
-impl<T: Drop> FromParts for NewtypeStruct<T> {
-    fn from_parts(Newtype(part): Newtype<T>) -> NewtypeStruct<T> {
-        NewtypeStruct(part)
-    }
-}
-
 impl<T: Readable> Readable for NewtypeStruct<T> {
-    ghost reads = { λ c r n. T.reads c r n.0 };
+    ghost reads = { ⟦<NewtypeStruct<T> as ReadByParts>⟧.reads };
+
+    ghost wrong_forms = { ⟦<NewtypeStruct<T> as ReadByParts>⟧.wrong_forms };
 }
 
 impl<'de, R: Read<'de>, T: Deserialize<'de, R>> Deserialize<'de, R> for NewtypeStruct<T> {
     fn deserialize(de: &mut Deserializer<R>) -> Result<NewtypeStruct<T>> {
-        Self::read_described(de, &[])
+        read_described(de)
     }
 }
 
@@ -124,29 +130,33 @@ impl Schema for UnitStruct {
     ghost names = { [] };
 
     ghost parts = { λ _. newtype tt };
+
+    fn names() -> &'static [&'static str] {
+        &[]
+    }
+
+    fn from_parts(Newtype(()): Self::Parts) -> UnitStruct {
+        UnitStruct
+    }
 }
 
 impl Serialize for UnitStruct {
-    ghost document = { λ _. ⟦<() as Serialize>⟧.document tt };
+    ghost document = { ⟦<UnitStruct as WrittenByParts>⟧.document };
 
     fn serialize<W: Write>(&self, ser: &mut Serializer<W>) -> Result<()> {
         ser.serialize_unit_struct("UnitStruct")
     }
 }
 
-impl FromParts for UnitStruct {
-    fn from_parts(Newtype(()): Self::Parts) -> UnitStruct {
-        UnitStruct
-    }
-}
-
 impl Readable for UnitStruct {
-    ghost reads = { λ c r _. ⟦<() as Readable>⟧.reads c r tt };
+    ghost reads = { ⟦<UnitStruct as ReadByParts>⟧.reads };
+
+    ghost wrong_forms = { ⟦<UnitStruct as ReadByParts>⟧.wrong_forms };
 }
 
 impl<'de, R: Read<'de>> Deserialize<'de, R> for UnitStruct {
     fn deserialize(de: &mut Deserializer<R>) -> Result<UnitStruct> {
-        Self::read_described(de, &[])
+        read_described(de)
     }
 }
 
@@ -173,31 +183,33 @@ impl Schema for Brief {
     ghost names = { map (λ n. n.now) BRIEF.now };
 
     ghost parts = { λ s. (s.a, s.b) };
-}
 
-impl Serialize for Brief {
-    ghost document = { λ x. ⟦<<Brief as Schema>::Parts as PartsDocument>⟧.document
-        ⟦<Brief as Schema>⟧.names (⟦<Brief as Schema>⟧.parts x) };
-
-    fn serialize<W: Write>(&self, ser: &mut Serializer<W>) -> Result<()> {
-        ser.serialize_fields(BRIEF, &(&self.a, &self.b))
+    fn names() -> &'static [&'static str] {
+        BRIEF
     }
-}
 
-impl FromParts for Brief {
     fn from_parts((a, b): Self::Parts) -> Brief {
         Brief { a, b }
     }
 }
 
+impl Serialize for Brief {
+    ghost document = { ⟦<Brief as WrittenByParts>⟧.document };
+
+    fn serialize<W: Write>(&self, ser: &mut Serializer<W>) -> Result<()> {
+        ser.serialize_fields(self, &(&self.a, &self.b))
+    }
+}
+
 impl Readable for Brief {
-    ghost reads = { λ c r x. ⟦<<Brief as Schema>::Parts as ReadableParts>⟧.reads
-        ⟦<Brief as Schema>⟧.names c r (⟦<Brief as Schema>⟧.parts x) };
+    ghost reads = { ⟦<Brief as ReadByParts>⟧.reads };
+
+    ghost wrong_forms = { ⟦<Brief as ReadByParts>⟧.wrong_forms };
 }
 
 impl<'de, R: Read<'de>> Deserialize<'de, R> for Brief {
     fn deserialize(de: &mut Deserializer<R>) -> Result<Brief> {
-        Self::read_described(de, BRIEF)
+        read_described(de)
     }
 }
 

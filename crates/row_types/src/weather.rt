@@ -1,8 +1,8 @@
 //! A struct of as many fields as are described.
 
-use serde_cbor::de::{Deserialize, DeserializeOwned, FromParts, Read, Readable, ReadableParts};
+use serde_cbor::de::{Deserialize, DeserializeOwned, Read, ReadByParts, Readable, read_described};
 use serde_cbor::parts::Schema;
-use serde_cbor::ser::{PartsDocument, Serialize, Serializer, Write};
+use serde_cbor::ser::{Serialize, Serializer, Write, WrittenByParts};
 use serde_cbor::{Deserializer, Result};
 
 /// What a weather station saw in an hour.
@@ -60,32 +60,11 @@ impl Schema for Weather {
       w.cloudy,
       w.remark,
     ) };
-}
 
-impl Serialize for Weather {
-    ghost document = { λ x. ⟦<<Weather as Schema>::Parts as PartsDocument>⟧.document
-        ⟦<Weather as Schema>⟧.names (⟦<Weather as Schema>⟧.parts x) };
-
-    fn serialize<W: Write>(&self, ser: &mut Serializer<W>) -> Result<()> {
-        let fields = (
-            &self.station,
-            &self.day,
-            &self.hour,
-            &self.temperature,
-            &self.pressure,
-            &self.humidity,
-            &self.wind,
-            &self.gust,
-            &self.bearing,
-            &self.rain,
-            &self.cloudy,
-            &self.remark,
-        );
-        ser.serialize_fields(WEATHER, &fields)
+    fn names() -> &'static [&'static str] {
+        WEATHER
     }
-}
 
-impl FromParts for Weather {
     fn from_parts(from: Self::Parts) -> Weather {
         let (
             station,
@@ -118,14 +97,37 @@ impl FromParts for Weather {
     }
 }
 
+impl Serialize for Weather {
+    ghost document = { ⟦<Weather as WrittenByParts>⟧.document };
+
+    fn serialize<W: Write>(&self, ser: &mut Serializer<W>) -> Result<()> {
+        let fields = (
+            &self.station,
+            &self.day,
+            &self.hour,
+            &self.temperature,
+            &self.pressure,
+            &self.humidity,
+            &self.wind,
+            &self.gust,
+            &self.bearing,
+            &self.rain,
+            &self.cloudy,
+            &self.remark,
+        );
+        ser.serialize_fields(self, &fields)
+    }
+}
+
 impl Readable for Weather {
-    ghost reads = { λ c r x. ⟦<<Weather as Schema>::Parts as ReadableParts>⟧.reads
-        ⟦<Weather as Schema>⟧.names c r (⟦<Weather as Schema>⟧.parts x) };
+    ghost reads = { ⟦<Weather as ReadByParts>⟧.reads };
+
+    ghost wrong_forms = { ⟦<Weather as ReadByParts>⟧.wrong_forms };
 }
 
 impl<'de, R: Read<'de>> Deserialize<'de, R> for Weather {
     fn deserialize(de: &mut Deserializer<R>) -> Result<Weather> {
-        Self::read_described(de, WEATHER)
+        read_described(de)
     }
 }
 

@@ -1,8 +1,8 @@
 //! Enums, with variants of each kind.
 
-use serde_cbor::de::{Deserialize, DeserializeOwned, FromParts, Read, Readable, ReadableParts};
+use serde_cbor::de::{Deserialize, DeserializeOwned, Read, ReadByParts, Readable, read_described};
 use serde_cbor::parts::{FieldNames, Newtype, OneOf4, Schema, Struct, Tuple};
-use serde_cbor::ser::{NamedFields, PartsDocument, Serialize, Serializer, Write};
+use serde_cbor::ser::{NamedFields, Serialize, Serializer, Write, WrittenByParts};
 use serde_cbor::{Deserializer, Result};
 
 /// An enum with variants of three kinds.
@@ -34,23 +34,11 @@ impl Schema for Color {
       | at.Yellow n ↦ one_of.third (newtype n)
       | at.Alpha a b ↦ one_of.fourth (tuple (a, b))
     ] };
-}
 
-impl Serialize for Color {
-    ghost document = { λ x. ⟦<<Color as Schema>::Parts as PartsDocument>⟧.document
-        ⟦<Color as Schema>⟧.names (⟦<Color as Schema>⟧.parts x) };
-
-    fn serialize<W: Write>(&self, ser: &mut Serializer<W>) -> Result<()> {
-        match self {
-            Color::Blue => ser.serialize_variant(COLOR, 0, &()),
-            Color::Other(n) => ser.serialize_variant(COLOR, 1, &Newtype(n)),
-            Color::Yellow(n) => ser.serialize_variant(COLOR, 2, &Newtype(n)),
-            Color::Alpha(a, b) => ser.serialize_variant(COLOR, 3, &Tuple((a, b))),
-        }
+    fn names() -> &'static [&'static str] {
+        COLOR
     }
-}
 
-impl FromParts for Color {
     fn from_parts(from: Self::Parts) -> Color {
         match from {
             OneOf4::First(()) => Color::Blue,
@@ -64,14 +52,28 @@ impl FromParts for Color {
     }
 }
 
+impl Serialize for Color {
+    ghost document = { ⟦<Color as WrittenByParts>⟧.document };
+
+    fn serialize<W: Write>(&self, ser: &mut Serializer<W>) -> Result<()> {
+        match self {
+            Color::Blue => ser.serialize_variant(self, 0, &()),
+            Color::Other(n) => ser.serialize_variant(self, 1, &Newtype(n)),
+            Color::Yellow(n) => ser.serialize_variant(self, 2, &Newtype(n)),
+            Color::Alpha(a, b) => ser.serialize_variant(self, 3, &Tuple((a, b))),
+        }
+    }
+}
+
 impl Readable for Color {
-    ghost reads = { λ c r x. ⟦<<Color as Schema>::Parts as ReadableParts>⟧.reads
-        ⟦<Color as Schema>⟧.names c r (⟦<Color as Schema>⟧.parts x) };
+    ghost reads = { ⟦<Color as ReadByParts>⟧.reads };
+
+    ghost wrong_forms = { ⟦<Color as ReadByParts>⟧.wrong_forms };
 }
 
 impl<'de, R: Read<'de>> Deserialize<'de, R> for Color {
     fn deserialize(de: &mut Deserializer<R>) -> Result<Color> {
-        Self::read_described(de, COLOR)
+        read_described(de)
     }
 }
 
@@ -92,7 +94,8 @@ pub enum Bar {
 const BAR: &[&str] = &["Empty", "Number", "Flag", "Point"];
 
 /// The named fields of its last variant.
-pub enum PointFields {}
+#[derive(Drop)]
+pub struct PointFields;
 
 const POINT: &[&str] = &["x", "y"];
 
@@ -126,23 +129,11 @@ impl Schema for Bar {
       | at.Flag a b ↦ one_of.third (tuple (a, b))
       | at.Point x y ↦ one_of.fourth (structure (x, y))
     ] };
-}
 
-impl Serialize for Bar {
-    ghost document = { λ x. ⟦<<Bar as Schema>::Parts as PartsDocument>⟧.document
-        ⟦<Bar as Schema>⟧.names (⟦<Bar as Schema>⟧.parts x) };
-
-    fn serialize<W: Write>(&self, ser: &mut Serializer<W>) -> Result<()> {
-        match self {
-            Bar::Empty => ser.serialize_variant(BAR, 0, &()),
-            Bar::Number(n) => ser.serialize_variant(BAR, 1, &Newtype(n)),
-            Bar::Flag(a, b) => ser.serialize_variant(BAR, 2, &Tuple((a, b))),
-            Bar::Point { x, y } => ser.serialize_variant(BAR, 3, &NamedFields(POINT, (x, y))),
-        }
+    fn names() -> &'static [&'static str] {
+        BAR
     }
-}
 
-impl FromParts for Bar {
     fn from_parts(from: Self::Parts) -> Bar {
         match from {
             OneOf4::First(()) => Bar::Empty,
@@ -159,14 +150,32 @@ impl FromParts for Bar {
     }
 }
 
+impl Serialize for Bar {
+    ghost document = { ⟦<Bar as WrittenByParts>⟧.document };
+
+    fn serialize<W: Write>(&self, ser: &mut Serializer<W>) -> Result<()> {
+        match self {
+            Bar::Empty => ser.serialize_variant(self, 0, &()),
+            Bar::Number(n) => ser.serialize_variant(self, 1, &Newtype(n)),
+            Bar::Flag(a, b) => ser.serialize_variant(self, 2, &Tuple((a, b))),
+            Bar::Point { x, y } => ser.serialize_variant(
+                self,
+                3,
+                &NamedFields(PointFields, (x, y)),
+            ),
+        }
+    }
+}
+
 impl Readable for Bar {
-    ghost reads = { λ c r x. ⟦<<Bar as Schema>::Parts as ReadableParts>⟧.reads
-        ⟦<Bar as Schema>⟧.names c r (⟦<Bar as Schema>⟧.parts x) };
+    ghost reads = { ⟦<Bar as ReadByParts>⟧.reads };
+
+    ghost wrong_forms = { ⟦<Bar as ReadByParts>⟧.wrong_forms };
 }
 
 impl<'de, R: Read<'de>> Deserialize<'de, R> for Bar {
     fn deserialize(de: &mut Deserializer<R>) -> Result<Bar> {
-        Self::read_described(de, BAR)
+        read_described(de)
     }
 }
 

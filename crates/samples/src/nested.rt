@@ -1,9 +1,9 @@
 //! A struct of an enum, and a struct of that.
 
 use crate::enums::Color;
-use serde_cbor::de::{Deserialize, DeserializeOwned, FromParts, Read, Readable, ReadableParts};
+use serde_cbor::de::{Deserialize, DeserializeOwned, Read, ReadByParts, Readable, read_described};
 use serde_cbor::parts::Schema;
-use serde_cbor::ser::{PartsDocument, Serialize, Serializer, Write};
+use serde_cbor::ser::{Serialize, Serializer, Write, WrittenByParts};
 use serde_cbor::{Deserializer, Result};
 
 /// A struct that holds an enum.
@@ -25,31 +25,33 @@ impl Schema for Foo {
     ghost names = { map (λ n. n.now) FOO.now };
 
     ghost parts = { λ f. (f.x, f.color) };
-}
 
-impl Serialize for Foo {
-    ghost document = { λ x. ⟦<<Foo as Schema>::Parts as PartsDocument>⟧.document
-        ⟦<Foo as Schema>⟧.names (⟦<Foo as Schema>⟧.parts x) };
-
-    fn serialize<W: Write>(&self, ser: &mut Serializer<W>) -> Result<()> {
-        ser.serialize_fields(FOO, &(&self.x, &self.color))
+    fn names() -> &'static [&'static str] {
+        FOO
     }
-}
 
-impl FromParts for Foo {
     fn from_parts((x, color): Self::Parts) -> Foo {
         Foo { x, color }
     }
 }
 
+impl Serialize for Foo {
+    ghost document = { ⟦<Foo as WrittenByParts>⟧.document };
+
+    fn serialize<W: Write>(&self, ser: &mut Serializer<W>) -> Result<()> {
+        ser.serialize_fields(self, &(&self.x, &self.color))
+    }
+}
+
 impl Readable for Foo {
-    ghost reads = { λ c r x. ⟦<<Foo as Schema>::Parts as ReadableParts>⟧.reads
-        ⟦<Foo as Schema>⟧.names c r (⟦<Foo as Schema>⟧.parts x) };
+    ghost reads = { ⟦<Foo as ReadByParts>⟧.reads };
+
+    ghost wrong_forms = { ⟦<Foo as ReadByParts>⟧.wrong_forms };
 }
 
 impl<'de, R: Read<'de>> Deserialize<'de, R> for Foo {
     fn deserialize(de: &mut Deserializer<R>) -> Result<Foo> {
-        Self::read_described(de, FOO)
+        read_described(de)
     }
 }
 
@@ -76,31 +78,33 @@ impl Schema for Example {
     ghost names = { map (λ n. n.now) EXAMPLE.now };
 
     ghost parts = { λ e. (e.foo, e.payload) };
-}
 
-impl Serialize for Example {
-    ghost document = { λ x. ⟦<<Example as Schema>::Parts as PartsDocument>⟧.document
-        ⟦<Example as Schema>⟧.names (⟦<Example as Schema>⟧.parts x) };
-
-    fn serialize<W: Write>(&self, ser: &mut Serializer<W>) -> Result<()> {
-        ser.serialize_fields(EXAMPLE, &(&self.foo, &self.payload))
+    fn names() -> &'static [&'static str] {
+        EXAMPLE
     }
-}
 
-impl FromParts for Example {
     fn from_parts((foo, payload): Self::Parts) -> Example {
         Example { foo, payload }
     }
 }
 
+impl Serialize for Example {
+    ghost document = { ⟦<Example as WrittenByParts>⟧.document };
+
+    fn serialize<W: Write>(&self, ser: &mut Serializer<W>) -> Result<()> {
+        ser.serialize_fields(self, &(&self.foo, &self.payload))
+    }
+}
+
 impl Readable for Example {
-    ghost reads = { λ c r x. ⟦<<Example as Schema>::Parts as ReadableParts>⟧.reads
-        ⟦<Example as Schema>⟧.names c r (⟦<Example as Schema>⟧.parts x) };
+    ghost reads = { ⟦<Example as ReadByParts>⟧.reads };
+
+    ghost wrong_forms = { ⟦<Example as ReadByParts>⟧.wrong_forms };
 }
 
 impl<'de, R: Read<'de>> Deserialize<'de, R> for Example {
     fn deserialize(de: &mut Deserializer<R>) -> Result<Example> {
-        Self::read_described(de, EXAMPLE)
+        read_described(de)
     }
 }
 

@@ -1,8 +1,8 @@
 //! Structs, written as maps of their fields.
 
-use serde_cbor::de::{Deserialize, DeserializeOwned, FromParts, Read, Readable, ReadableParts};
+use serde_cbor::de::{Deserialize, DeserializeOwned, Read, ReadByParts, Readable, read_described};
 use serde_cbor::parts::Schema;
-use serde_cbor::ser::{PartsDocument, Serialize, Serializer, Write};
+use serde_cbor::ser::{Serialize, Serializer, Write, WrittenByParts};
 use serde_cbor::{Deserializer, Result};
 
 /// A struct of two fields.
@@ -24,18 +24,11 @@ impl Schema for User {
     ghost names = { map (λ n. n.now) USER.now };
 
     ghost parts = { λ u. (u.user_id, u.password_hash) };
-}
 
-impl Serialize for User {
-    ghost document = { λ x. ⟦<<User as Schema>::Parts as PartsDocument>⟧.document
-        ⟦<User as Schema>⟧.names (⟦<User as Schema>⟧.parts x) };
-
-    fn serialize<W: Write>(&self, ser: &mut Serializer<W>) -> Result<()> {
-        ser.serialize_fields(USER, &(&self.user_id, &self.password_hash))
+    fn names() -> &'static [&'static str] {
+        USER
     }
-}
 
-impl FromParts for User {
     fn from_parts((user_id, password_hash): Self::Parts) -> User {
         User {
             user_id,
@@ -44,14 +37,23 @@ impl FromParts for User {
     }
 }
 
+impl Serialize for User {
+    ghost document = { ⟦<User as WrittenByParts>⟧.document };
+
+    fn serialize<W: Write>(&self, ser: &mut Serializer<W>) -> Result<()> {
+        ser.serialize_fields(self, &(&self.user_id, &self.password_hash))
+    }
+}
+
 impl Readable for User {
-    ghost reads = { λ c r x. ⟦<<User as Schema>::Parts as ReadableParts>⟧.reads
-        ⟦<User as Schema>⟧.names c r (⟦<User as Schema>⟧.parts x) };
+    ghost reads = { ⟦<User as ReadByParts>⟧.reads };
+
+    ghost wrong_forms = { ⟦<User as ReadByParts>⟧.wrong_forms };
 }
 
 impl<'de, R: Read<'de>> Deserialize<'de, R> for User {
     fn deserialize(de: &mut Deserializer<R>) -> Result<User> {
-        Self::read_described(de, USER)
+        read_described(de)
     }
 }
 
@@ -78,31 +80,33 @@ impl Schema for SmallStruct {
     ghost names = { map (λ n. n.now) SMALL.now };
 
     ghost parts = { λ s. (s.spam, s.eggs) };
-}
 
-impl Serialize for SmallStruct {
-    ghost document = { λ x. ⟦<<SmallStruct as Schema>::Parts as PartsDocument>⟧.document
-        ⟦<SmallStruct as Schema>⟧.names (⟦<SmallStruct as Schema>⟧.parts x) };
-
-    fn serialize<W: Write>(&self, ser: &mut Serializer<W>) -> Result<()> {
-        ser.serialize_fields(SMALL, &(&self.spam, &self.eggs))
+    fn names() -> &'static [&'static str] {
+        SMALL
     }
-}
 
-impl FromParts for SmallStruct {
     fn from_parts((spam, eggs): Self::Parts) -> SmallStruct {
         SmallStruct { spam, eggs }
     }
 }
 
+impl Serialize for SmallStruct {
+    ghost document = { ⟦<SmallStruct as WrittenByParts>⟧.document };
+
+    fn serialize<W: Write>(&self, ser: &mut Serializer<W>) -> Result<()> {
+        ser.serialize_fields(self, &(&self.spam, &self.eggs))
+    }
+}
+
 impl Readable for SmallStruct {
-    ghost reads = { λ c r x. ⟦<<SmallStruct as Schema>::Parts as ReadableParts>⟧.reads
-        ⟦<SmallStruct as Schema>⟧.names c r (⟦<SmallStruct as Schema>⟧.parts x) };
+    ghost reads = { ⟦<SmallStruct as ReadByParts>⟧.reads };
+
+    ghost wrong_forms = { ⟦<SmallStruct as ReadByParts>⟧.wrong_forms };
 }
 
 impl<'de, R: Read<'de>> Deserialize<'de, R> for SmallStruct {
     fn deserialize(de: &mut Deserializer<R>) -> Result<SmallStruct> {
-        Self::read_described(de, SMALL)
+        read_described(de)
     }
 }
 
@@ -130,18 +134,11 @@ impl Schema for Mascot {
     ghost names = { map (λ n. n.now) MASCOT.now };
 
     ghost parts = { λ m. (m.name, m.species, m.year_of_birth) };
-}
 
-impl Serialize for Mascot {
-    ghost document = { λ x. ⟦<<Mascot as Schema>::Parts as PartsDocument>⟧.document
-        ⟦<Mascot as Schema>⟧.names (⟦<Mascot as Schema>⟧.parts x) };
-
-    fn serialize<W: Write>(&self, ser: &mut Serializer<W>) -> Result<()> {
-        ser.serialize_fields(MASCOT, &(&self.name, &self.species, &self.year_of_birth))
+    fn names() -> &'static [&'static str] {
+        MASCOT
     }
-}
 
-impl FromParts for Mascot {
     fn from_parts((name, species, year_of_birth): Self::Parts) -> Mascot {
         Mascot {
             name,
@@ -151,14 +148,23 @@ impl FromParts for Mascot {
     }
 }
 
+impl Serialize for Mascot {
+    ghost document = { ⟦<Mascot as WrittenByParts>⟧.document };
+
+    fn serialize<W: Write>(&self, ser: &mut Serializer<W>) -> Result<()> {
+        ser.serialize_fields(self, &(&self.name, &self.species, &self.year_of_birth))
+    }
+}
+
 impl Readable for Mascot {
-    ghost reads = { λ c r x. ⟦<<Mascot as Schema>::Parts as ReadableParts>⟧.reads
-        ⟦<Mascot as Schema>⟧.names c r (⟦<Mascot as Schema>⟧.parts x) };
+    ghost reads = { ⟦<Mascot as ReadByParts>⟧.reads };
+
+    ghost wrong_forms = { ⟦<Mascot as ReadByParts>⟧.wrong_forms };
 }
 
 impl<'de, R: Read<'de>> Deserialize<'de, R> for Mascot {
     fn deserialize(de: &mut Deserializer<R>) -> Result<Mascot> {
-        Self::read_described(de, MASCOT)
+        read_described(de)
     }
 }
 
@@ -186,18 +192,11 @@ impl Schema for Person {
     ghost names = { map (λ n. n.now) PERSON.now };
 
     ghost parts = { λ p. (p.name, p.year_of_birth, p.profession) };
-}
 
-impl Serialize for Person {
-    ghost document = { λ x. ⟦<<Person as Schema>::Parts as PartsDocument>⟧.document
-        ⟦<Person as Schema>⟧.names (⟦<Person as Schema>⟧.parts x) };
-
-    fn serialize<W: Write>(&self, ser: &mut Serializer<W>) -> Result<()> {
-        ser.serialize_fields(PERSON, &(&self.name, &self.year_of_birth, &self.profession))
+    fn names() -> &'static [&'static str] {
+        PERSON
     }
-}
 
-impl FromParts for Person {
     fn from_parts((name, year_of_birth, profession): Self::Parts) -> Person {
         Person {
             name,
@@ -207,14 +206,23 @@ impl FromParts for Person {
     }
 }
 
+impl Serialize for Person {
+    ghost document = { ⟦<Person as WrittenByParts>⟧.document };
+
+    fn serialize<W: Write>(&self, ser: &mut Serializer<W>) -> Result<()> {
+        ser.serialize_fields(self, &(&self.name, &self.year_of_birth, &self.profession))
+    }
+}
+
 impl Readable for Person {
-    ghost reads = { λ c r x. ⟦<<Person as Schema>::Parts as ReadableParts>⟧.reads
-        ⟦<Person as Schema>⟧.names c r (⟦<Person as Schema>⟧.parts x) };
+    ghost reads = { ⟦<Person as ReadByParts>⟧.reads };
+
+    ghost wrong_forms = { ⟦<Person as ReadByParts>⟧.wrong_forms };
 }
 
 impl<'de, R: Read<'de>> Deserialize<'de, R> for Person {
     fn deserialize(de: &mut Deserializer<R>) -> Result<Person> {
-        Self::read_described(de, PERSON)
+        read_described(de)
     }
 }
 

@@ -1,6 +1,6 @@
 //! Reading: the four `from_*` read a whole input as a type, and a [`Deserializer`] reads types
 //! from a source, one after the other. A struct or an enum is read by its description
-//! ([`FromParts`]), or part by part ([`Deserialize`]).
+//! ([`read_described`]), or part by part ([`Deserialize`]).
 
 pub use cbor_de::{
     Deserialize, DeserializeOwned, Deserializer, EitherLifetime, EitherStr, Field, FieldType,
@@ -12,6 +12,8 @@ pub use cbor_de::{
     sources_agree, tag_taken, variant_newtype_taken, variant_taken, variant_tuple_taken,
     variant_unit_taken,
 };
-pub use cbor_described::{FromParts, ReadParts, ReadableParts, ReadableTuple, Variant};
+pub use cbor_described::{
+    ReadByParts, ReadParts, ReadableParts, ReadableTuple, Variant, read_described,
+};
 pub use cbor_round_trip::RoundTrip;
 pub use cbor_strict::{from_slice_canonical, from_slice_canonical_as};

@@ -3,7 +3,7 @@
 ghost use Rattle.std.specs.Prelude.{codes};
 
 use serde_cbor::parts::Schema;
-use serde_cbor::ser::{PartsDocument, Serialize, Serializer, Write, to_vec_packed};
+use serde_cbor::ser::{Serialize, Serializer, Write, WrittenByParts, to_vec_packed};
 use serde_cbor::{Result, to_vec};
 use test_checks::Done;
 
@@ -26,14 +26,25 @@ impl Schema for Reading {
     ghost names = { map (λ n. n.now) READING.now };
 
     ghost parts = { λ r. (r.celsius, r.humidity, r.spectrum) };
+
+    fn names() -> &'static [&'static str] {
+        READING
+    }
+
+    fn from_parts((celsius, humidity, spectrum): Self::Parts) -> Reading {
+        Reading {
+            celsius,
+            humidity,
+            spectrum,
+        }
+    }
 }
 
 impl Serialize for Reading {
-    ghost document = { λ x. ⟦<<Reading as Schema>::Parts as PartsDocument>⟧.document
-        ⟦<Reading as Schema>⟧.names (⟦<Reading as Schema>⟧.parts x) };
+    ghost document = { ⟦<Reading as WrittenByParts>⟧.document };
 
     fn serialize<W: Write>(&self, ser: &mut Serializer<W>) -> Result<()> {
-        ser.serialize_fields(READING, &(&self.celsius, &self.humidity, &self.spectrum))
+        ser.serialize_fields(self, &(&self.celsius, &self.humidity, &self.spectrum))
     }
 }
 

@@ -4,10 +4,10 @@ ghost use Rattle.std.specs.Prelude.{map};
 ghost use Rattle.serde_cbor.specs.Schemas.{newtype, optional, or_default};
 ghost use Rattle.use_device_config.specs.declared.config.TheConstants.{CONFIG, MODE};
 
-use serde_cbor::de::{Deserialize, DeserializeOwned, FromParts, Read, Readable, ReadableParts};
+use serde_cbor::de::{Deserialize, DeserializeOwned, Read, ReadByParts, Readable, read_described};
 use serde_cbor::parts::{Newtype, OneOf2, Optional, OrDefault, Schema};
-use serde_cbor::round_trip::PartsRoundTrip;
-use serde_cbor::ser::{OptionalField, PartsDocument, Serialize, Serializer, Write};
+use serde_cbor::round_trip::RoundTripByParts;
+use serde_cbor::ser::{OptionalField, Serialize, Serializer, Write, WrittenByParts};
 use serde_cbor::{Deserializer, Result, RoundTrip};
 
 /// When a device measures.
@@ -34,21 +34,11 @@ impl Schema for Mode {
       | mode.Idle ↦ one_of.first tt
       | mode.Every seconds ↦ one_of.second (newtype seconds)
     ] };
-}
 
-impl Serialize for Mode {
-    ghost document = { λ m. ⟦<<Mode as Schema>::Parts as PartsDocument>⟧.document
-        ⟦<Mode as Schema>⟧.names (⟦<Mode as Schema>⟧.parts m) };
-
-    fn serialize<W: Write>(&self, ser: &mut Serializer<W>) -> Result<()> {
-        match self {
-            Mode::Idle => ser.serialize_variant(MODE, 0, &()),
-            Mode::Every(seconds) => ser.serialize_variant(MODE, 1, &Newtype(seconds)),
-        }
+    fn names() -> &'static [&'static str] {
+        MODE
     }
-}
 
-impl FromParts for Mode {
     fn from_parts(from: Self::Parts) -> Mode {
         match from {
             OneOf2::First(()) => Mode::Idle,
@@ -57,14 +47,26 @@ impl FromParts for Mode {
     }
 }
 
+impl Serialize for Mode {
+    ghost document = { ⟦<Mode as WrittenByParts>⟧.document };
+
+    fn serialize<W: Write>(&self, ser: &mut Serializer<W>) -> Result<()> {
+        match self {
+            Mode::Idle => ser.serialize_variant(self, 0, &()),
+            Mode::Every(seconds) => ser.serialize_variant(self, 1, &Newtype(seconds)),
+        }
+    }
+}
+
 impl Readable for Mode {
-    ghost reads = { λ c r m. ⟦<<Mode as Schema>::Parts as ReadableParts>⟧.reads
-        ⟦<Mode as Schema>⟧.names c r (⟦<Mode as Schema>⟧.parts m) };
+    ghost reads = { ⟦<Mode as ReadByParts>⟧.reads };
+
+    ghost wrong_forms = { ⟦<Mode as ReadByParts>⟧.wrong_forms };
 }
 
 impl<'de, R: Read<'de>> Deserialize<'de, R> for Mode {
     fn deserialize(de: &mut Deserializer<R>) -> Result<Mode> {
-        Self::read_described(de, MODE)
+        read_described(de)
     }
 }
 
@@ -74,10 +76,8 @@ impl DeserializeOwned for Mode {
 
 impl RoundTrip for Mode {
     ghost use Rattle.std.specs.Prelude.{refl};
-    ghost use Rattle.serde_cbor.specs.TypeLaws.{by_description};
 
-    ghost law = { by_description ⟦<Mode as Schema>⟧.names ⟦<Mode as Schema>⟧.parts
-        ⟦<<Mode as Schema>::Parts as PartsRoundTrip>⟧.law refl refl };
+    ghost law = { ⟦<Mode as RoundTripByParts>⟧.law.by_names refl refl };
 
     ghost back = { Self.law.back };
 }
@@ -101,19 +101,11 @@ impl Schema for Config {
     ghost names = { map (λ n. n.now) CONFIG.now };
 
     ghost parts = { λ c. (c.mode, c.channels, optional c.name, or_default c.verbose) };
-}
 
-impl Serialize for Config {
-    ghost document = { λ c. ⟦<<Config as Schema>::Parts as PartsDocument>⟧.document
-        ⟦<Config as Schema>⟧.names (⟦<Config as Schema>⟧.parts c) };
-
-    fn serialize<W: Write>(&self, ser: &mut Serializer<W>) -> Result<()> {
-        let name = OptionalField(&self.name);
-        ser.serialize_fields(CONFIG, &(&self.mode, &self.channels, name, &self.verbose))
+    fn names() -> &'static [&'static str] {
+        CONFIG
     }
-}
 
-impl FromParts for Config {
     fn from_parts((mode, channels, name, verbose): Self::Parts) -> Config {
         Config {
             mode,
@@ -124,14 +116,24 @@ impl FromParts for Config {
     }
 }
 
+impl Serialize for Config {
+    ghost document = { ⟦<Config as WrittenByParts>⟧.document };
+
+    fn serialize<W: Write>(&self, ser: &mut Serializer<W>) -> Result<()> {
+        let name = OptionalField(&self.name);
+        ser.serialize_fields(self, &(&self.mode, &self.channels, name, &self.verbose))
+    }
+}
+
 impl Readable for Config {
-    ghost reads = { λ c r x. ⟦<<Config as Schema>::Parts as ReadableParts>⟧.reads
-        ⟦<Config as Schema>⟧.names c r (⟦<Config as Schema>⟧.parts x) };
+    ghost reads = { ⟦<Config as ReadByParts>⟧.reads };
+
+    ghost wrong_forms = { ⟦<Config as ReadByParts>⟧.wrong_forms };
 }
 
 impl<'de, R: Read<'de>> Deserialize<'de, R> for Config {
     fn deserialize(de: &mut Deserializer<R>) -> Result<Config> {
-        Self::read_described(de, CONFIG)
+        read_described(de)
     }
 }
 
@@ -141,10 +143,8 @@ impl DeserializeOwned for Config {
 
 impl RoundTrip for Config {
     ghost use Rattle.std.specs.Prelude.{refl};
-    ghost use Rattle.serde_cbor.specs.TypeLaws.{by_description};
 
-    ghost law = { by_description ⟦<Config as Schema>⟧.names ⟦<Config as Schema>⟧.parts
-        ⟦<<Config as Schema>::Parts as PartsRoundTrip>⟧.law refl refl };
+    ghost law = { ⟦<Config as RoundTripByParts>⟧.law.by_names refl refl };
 
     ghost back = { Self.law.back };
 }

@@ -5,9 +5,9 @@ ghost use Rattle.serde_cbor.specs.OneOf3 as one_of;
 ghost use Rattle.serde_cbor.specs.Schemas.{newtype, tuple};
 ghost use Rattle.use_messages.specs.declared.messages.TheConstants.{REPLY, REQUEST};
 
-use serde_cbor::de::{Deserialize, DeserializeOwned, FromParts, Read, Readable, ReadableParts};
+use serde_cbor::de::{Deserialize, DeserializeOwned, Read, ReadByParts, Readable, read_described};
 use serde_cbor::parts::{Newtype, OneOf3, Schema, Tuple};
-use serde_cbor::ser::{PartsDocument, Serialize, Serializer, Write};
+use serde_cbor::ser::{Serialize, Serializer, Write, WrittenByParts};
 use serde_cbor::{Deserializer, Result};
 
 /// What a client asks.
@@ -36,9 +36,11 @@ impl Schema for Request {
       | request.Add x y ↦ one_of.second (tuple (x, y))
       | request.Measure text ↦ one_of.third (newtype text)
     ] };
-}
 
-impl FromParts for Request {
+    fn names() -> &'static [&'static str] {
+        REQUEST
+    }
+
     fn from_parts(from: Self::Parts) -> Request {
         match from {
             OneOf3::First(()) => Request::Ping,
@@ -52,13 +54,14 @@ impl FromParts for Request {
 }
 
 impl Readable for Request {
-    ghost reads = { λ c r q. ⟦<<Request as Schema>::Parts as ReadableParts>⟧.reads
-        ⟦<Request as Schema>⟧.names c r (⟦<Request as Schema>⟧.parts q) };
+    ghost reads = { ⟦<Request as ReadByParts>⟧.reads };
+
+    ghost wrong_forms = { ⟦<Request as ReadByParts>⟧.wrong_forms };
 }
 
 impl<'de, R: Read<'de>> Deserialize<'de, R> for Request {
     fn deserialize(de: &mut Deserializer<R>) -> Result<Request> {
-        Self::read_described(de, REQUEST)
+        read_described(de)
     }
 }
 
@@ -89,22 +92,11 @@ impl Schema for Reply {
       | reply.Sum sum ↦ one_of.second (newtype sum)
       | reply.Length length ↦ one_of.third (newtype length)
     ] };
-}
 
-impl Serialize for Reply {
-    ghost document = { λ r. ⟦<<Reply as Schema>::Parts as PartsDocument>⟧.document
-        ⟦<Reply as Schema>⟧.names (⟦<Reply as Schema>⟧.parts r) };
-
-    fn serialize<W: Write>(&self, ser: &mut Serializer<W>) -> Result<()> {
-        match self {
-            Reply::Pong => ser.serialize_variant(REPLY, 0, &()),
-            Reply::Sum(sum) => ser.serialize_variant(REPLY, 1, &Newtype(sum)),
-            Reply::Length(length) => ser.serialize_variant(REPLY, 2, &Newtype(length)),
-        }
+    fn names() -> &'static [&'static str] {
+        REPLY
     }
-}
 
-impl FromParts for Reply {
     fn from_parts(from: Self::Parts) -> Reply {
         match from {
             OneOf3::First(()) => Reply::Pong,
@@ -114,14 +106,27 @@ impl FromParts for Reply {
     }
 }
 
+impl Serialize for Reply {
+    ghost document = { ⟦<Reply as WrittenByParts>⟧.document };
+
+    fn serialize<W: Write>(&self, ser: &mut Serializer<W>) -> Result<()> {
+        match self {
+            Reply::Pong => ser.serialize_variant(self, 0, &()),
+            Reply::Sum(sum) => ser.serialize_variant(self, 1, &Newtype(sum)),
+            Reply::Length(length) => ser.serialize_variant(self, 2, &Newtype(length)),
+        }
+    }
+}
+
 impl Readable for Reply {
-    ghost reads = { λ c r a. ⟦<<Reply as Schema>::Parts as ReadableParts>⟧.reads
-        ⟦<Reply as Schema>⟧.names c r (⟦<Reply as Schema>⟧.parts a) };
+    ghost reads = { ⟦<Reply as ReadByParts>⟧.reads };
+
+    ghost wrong_forms = { ⟦<Reply as ReadByParts>⟧.wrong_forms };
 }
 
 impl<'de, R: Read<'de>> Deserialize<'de, R> for Reply {
     fn deserialize(de: &mut Deserializer<R>) -> Result<Reply> {
-        Self::read_described(de, REPLY)
+        read_described(de)
     }
 }
 
