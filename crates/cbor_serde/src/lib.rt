@@ -18,7 +18,9 @@
 
 pub mod bytes;
 mod de;
+mod kept;
 mod ser;
+mod stream;
 mod value;
 
 pub use cbor_io::error::{Category, Error, ErrorCode, Result};
@@ -32,4 +34,5 @@ pub use de::{
 pub use ser::{
     to_vec, to_vec_canonical, to_vec_canonical_with, to_vec_with, to_writer, to_writer_with,
 };
+pub use stream::Stream;
 pub use value::{from_value, from_value_with, to_value, to_value_with};
