@@ -1,8 +1,9 @@
 //! Prints what the Rust crate writes of values of derived types, and what these types read of bytes:
-//! `w NAME BYTES`, and `r NAME BYTES ANSWER`. With the word `attributes` it prints the rows of that
-//! table.
+//! `w NAME BYTES`, and `r NAME BYTES ANSWER`. With the word `attributes` or `more` it prints the rows
+//! of that table.
 
 mod attributes;
+mod more;
 
 use serde::{Deserialize, Serialize};
 use std::collections::BTreeMap;
@@ -142,8 +143,10 @@ fn r<'a, T: Deserialize<'a> + Debug>(name: &str, b: &'a [u8]) {
 }
 
 fn main() {
-    if std::env::args().nth(1).as_deref() == Some("attributes") {
-        return attributes::print();
+    match std::env::args().nth(1).as_deref() {
+        Some("attributes") => return attributes::print(),
+        Some("more") => return more::print(),
+        _ => {}
     }
     let user = || User {
         user_id: 7,

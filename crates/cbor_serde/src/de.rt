@@ -4,6 +4,7 @@ ghost use Rattle.std.specs.Prelude.{OnOk};
 ghost use Rattle.cbor_model.specs.Plain.{Val};
 ghost use Rattle.cbor_strict.specs.Strict.{SpellsCanonically};
 
+use crate::kept::Kept;
 use cbor_de::IgnoredAny;
 use cbor_io::error::Result;
 use cbor_serde_de::Cbor;
@@ -12,9 +13,6 @@ use cbor_strict::from_slice_canonical_as;
 use serde::{Deserialize, DeserializeOwned, Deserializer};
 use std::alloc::Global;
 use std::io;
-
-/// How many bytes a reader is asked for at a time.
-const PIECE: usize = 1024;
 
 /// What the one item that the bytes encode is read as. A borrowed string is lent by the slice.
 ///
@@ -96,10 +94,12 @@ fn is_canonical(alloc: Global, bytes: &[u8]) -> Result<()>
     }
 }
 
-/// What the one item that a reader gives is read as. All that the reader gives is taken to memory
-/// first, also where it is refused at its first byte: give it a `take` where it may not end.
+/// What the one item that a reader gives is read as. The bytes of the item are taken to memory while
+/// `T` reads them, and one byte more is asked for, to see that none follows: give it a `take` where
+/// an item may be too long, and a `BufReader` where asking for a few bytes is dear.
 ///
-/// It refuses as [`from_slice`] does, and with `Io` where the reader fails.
+/// It refuses as [`from_slice`] does, and with `Io` where the reader fails. [`Stream`](crate::Stream)
+/// reads items that follow one another.
 ///
 /// ```rust
 /// let number: u8 = from_reader(alloc, b"\x18\x2a".as_slice())?;
@@ -113,24 +113,11 @@ pub fn from_reader<R: io::Read + Drop, T: DeserializeOwned>(alloc: Global, reade
 pub fn from_reader_with<R: io::Read + Drop, T: DeserializeOwned>(
     options: Options,
     alloc: Global,
-    mut reader: R,
+    reader: R,
 ) -> Result<T> {
-    let bytes = all_of(alloc, &mut reader)?;
-    from_bytes(options, alloc, &bytes)
-}
-
-// All bytes that a reader gives.
-fn all_of<R: io::Read>(alloc: Global, reader: &mut R) -> Result<Vec<u8>> {
-    let mut bytes = Vec::new(alloc);
-    let mut piece = [0; PIECE];
-    for _ in 0..u64::MAX {
-        let count = reader.read(&mut piece)?;
-        if count == 0 {
-            break;
-        }
-        bytes.extend_from_slice(&piece[..count])?;
-    }
-    Ok(bytes)
+    let mut kept = Kept::new(alloc, reader);
+    let passed = kept.pass(options, alloc, true);
+    kept.read(options, alloc, passed)
 }
 
 /// What the bytes are read as, of which nothing is borrowed.

@@ -152,9 +152,13 @@ impl<'i> Format for Cbor<'i> {
         read_own_bytes(&mut self.decoder)
     }
 
+    // Where names may be integers, an integer may be the name of a variant, as a text is.
     #[inline(always)]
     fn peek(&mut self, _input: &[u8]) -> Result<Kind> {
-        self.kind()
+        match self.kind()? {
+            Kind::Unsigned | Kind::Signed if self.options.integer_keys => Ok(Kind::Str),
+            kind => Ok(kind),
+        }
     }
 
     #[inline(always)]
@@ -237,7 +241,7 @@ impl<'i> Format for Cbor<'i> {
     }
 
     fn variant(&mut self, _input: &[u8], names: &[Name<'_>]) -> Result<usize> {
-        self.named(names, false)
+        self.named(names, self.options.integer_keys)
     }
 
     #[inline(always)]

@@ -1,5 +1,5 @@
 -- What is still due of an item that is written part by part.
-use Rattle.std.proofs.Common.{◌≡◌, ◌≤◌, ◌-◌, ◌+◌, ℕ, zero, suc, List, ◌++◌, Bool, true, false, Option, Some, None, IsUtf8, ap, ◌∙◌, subst, sym, append_assoc}
+use Rattle.std.proofs.Common.{◌≡◌, ◌≤◌, ℕ, zero, suc, List, ◌++◌, Bool, true, false, Option, Some, None, IsUtf8, ap, ◌∙◌, subst, sym, append_assoc}
 use Rattle.std.proofs.Math.Nat.{max-le}
 use Rattle.cbor_model.specs.Raw.{Raw, Raws, raw, RawPairs, raw_pair, count, pair_count, AreWellFormed, ArePairsWellFormed, depth_all, depth_pairs, EachTextOfAll, EachTextOfPairs}
 use Rattle.cbor_model.specs.Acceptable.{IsAcceptableWithin}

@@ -1,5 +1,5 @@
 -- What is still due where arrays and maps are open.
-use Rattle.std.proofs.Common.{◌≡◌, ◌≤◌, ◌-◌, ◌+◌, ◌<◌, ◌^◌, ℕ, suc, List, [], ◌∷◌, ◌++◌, length, Bool, true, false, Option, Some, None, refl, ap, ◌∙◌, subst, sym, arith, append_assoc}
+use Rattle.std.proofs.Common.{◌≡◌, ◌≤◌, ◌-◌, ◌<◌, ◌^◌, ℕ, suc, List, [], ◌∷◌, ◌++◌, length, Bool, true, false, Option, Some, None, refl, ap, ◌∙◌, subst, sym, arith, append_assoc}
 use Rattle.std.specs.Prelude.{not, ◌&&◌, nat_lt, if◌then◌else◌, option_map}
 use Rattle.std.proofs.lemmas.Bool.{ltb-true}
 use Rattle.cbor_model.specs.Head.{HeadWidth, no_bytes, one_byte, two_bytes, four_bytes, limit, least, head}
@@ -7,7 +7,7 @@ use Rattle.cbor_model.specs.Raw.{Raw, no_raws, no_raw_pairs, count, pair_count, 
 use Rattle.cbor_model.specs.Acceptable.{IsAcceptableWithin}
 use Rattle.cbor_model.specs.Spelling.{spell, spell_all, spell_pairs, break}
 use Rattle.cbor_model.specs.Parts.{array_start, map_start, end_of}
-use Rattle.cbor_serde_ser.specs.Document.{after_item, counted_down, none_left, opened}
+use Rattle.cbor_serde_ser.specs.Document.{after_item, counted_down, none_left}
 use Rattle.cbor_serde_ser.specs.declared.level.Level.{Level}
 use Rattle.cbor_serde_ser.proofs.Due.{Items, Pairs, Whole, Due, took_item, took_key}
 

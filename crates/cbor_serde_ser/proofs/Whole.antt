@@ -1,6 +1,6 @@
 -- The document of events is one acceptable item.
-use Rattle.std.proofs.Common.{◌≡◌, ◌<◌, ◌+◌, ◌-◌, ◌^◌, ℕ, zero, suc, ℤ, pos, negsuc, List, [], ◌∷◌, ◌++◌, length, Bool, true, false, Option, Some, None, option_and_then, IsUtf8, refl, ap, ◌∙◌, subst, sym, arith, append_assoc, append-nil}
-use Rattle.std.specs.Prelude.{not, ◌&&◌, ◌||◌, ◌==◌, nat_lt, if◌then◌else◌, option_map, is_some, encode_utf8, to_bits}
+use Rattle.std.proofs.Common.{◌≡◌, ◌<◌, ◌+◌, ◌-◌, ◌^◌, ℕ, zero, suc, ℤ, pos, negsuc, List, [], ◌∷◌, ◌++◌, length, Bool, true, false, Option, Some, None, option_and_then, refl, ap, ◌∙◌, subst, sym, arith, append_assoc, append-nil}
+use Rattle.std.specs.Prelude.{not, ◌&&◌, ◌==◌, nat_lt, if◌then◌else◌, option_map, is_some, encode_utf8, to_bits}
 use Rattle.std.specs.Str.{is_utf8}
 use Rattle.std.specs.List.{list_all}
 use Rattle.std.specs.Int.{w16, w32, w64, to_be_bytes, from_be_bytes, byte_at, bytes_high_first}
@@ -23,7 +23,7 @@ use Rattle.cbor_serde_options.specs.Keys.{key_number, negative as negative_key, 
 use Rattle.cbor_serde_options.specs.declared.options.Options.{Options}
 use Rattle.cbor_serde_ser.specs.declared.level.Level.{Level}
 use Rattle.cbor_serde_ser.specs.Floats.{half_of, half_or_single, single_bytes, is_single}
-use Rattle.cbor_serde_ser.specs.Document.{State, start, after_item, is_full, opened, item, opens, closed, ends, joined, taken, step, run, whole, is_empty, left_is_zero, document, is_bytes, is_text, is_count, may_come, string, integer, stored, integer_or_text, name_bytes, IsItem, AreBytesOf}
+use Rattle.cbor_serde_ser.specs.Document.{State, start, after_item, is_full, item, named, opens, closed, ends, joined, begins, map_opens, is_field, taken, then_taken, step, run, whole, is_empty, left_is_zero, document, is_bytes, is_text, is_count, may_come, string, integer, stored, integer_or_text, name_bytes, IsItem, AreBytesOf}
 use Rattle.cbor_serde_ser.proofs.Due.{AreFine, Due}
 use Rattle.cbor_serde_ser.proofs.Levels.{levels_left, Completes, took, fits_least, IsCount, fronts, ended_due}
 
@@ -239,29 +239,29 @@ count_is : (n : Option ℕ) → is_count n ≡ true → IsCount n
 count_is None e = tt
 count_is (Some n) e = ltb-true n (2 ^ 64) e
 
-nested : (s : State) (after : Level) (n : Option ℕ) (is_map : Bool) → IsCount n → length s.outer < 127 → after_item s.level ≡ Some after → Good s
-    → Good (record s { level = opened n is_map; outer = after ∷ s.outer; bytes = s.bytes ++ start_of is_map n })
-nested s after n is_map small deep e good more due =
+-- a level that begins
+abbrev fresh : Bool → Bool → Option ℕ → Level
+fresh drops is_map n = record { left = n; is_map = is_map; at_value = false; flat = 0; drops_names = drops }
+
+nested : (s : State) (after : Level) (n : Option ℕ) (drops is_map : Bool) → IsCount n → length s.outer < 127 → after_item s.level ≡ Some after → Good s
+    → Good (record s { level = fresh drops is_map n; outer = after ∷ s.outer; bytes = s.bytes ++ start_of is_map n })
+nested s after n drops is_map small deep e good more due =
     let whole = fronts is_map (levels_left s.outer) (levels_left (after ∷ s.outer)) n more due.0 (omega (arith, deep)) small due.1 in
     subst (λ z. IsItem z) (ap (λ z. s.bytes ++ z) (sym whole.bytes) ∙ sym (append_assoc s.bytes (start_of is_map n) more))
     (good (spell whole.item ++ due.0) (took s.outer s.level after whole.item due.0 e whole.fine due.2))
 
-opens_by : (s t : State) (x : Option Level) (n : Option ℕ) (is_map : Bool) → IsCount n → length s.outer < 127 → after_item s.level ≡ x
-    → option_map (λ after. record s { level = opened n is_map; outer = after ∷ s.outer; bytes = s.bytes ++ start_of is_map n }) x ≡ Some t → Good s → Good t
-opens_by s t None n is_map small deep e is good = no_state t is
-opens_by s t (Some after) n is_map small deep e is good =
-    let inner : State = record s { level = opened n is_map; outer = after ∷ s.outer; bytes = s.bytes ++ start_of is_map n } in
-    subst (λ (u : State). Good u) (state_is inner t is) (nested s after n is_map small deep e good)
+opens_by : (s t : State) (x : Option Level) (n : Option ℕ) (drops is_map : Bool) → IsCount n → length s.outer < 127 → after_item s.level ≡ x
+    → option_map (λ after. record s { level = fresh drops is_map n; outer = after ∷ s.outer; bytes = s.bytes ++ start_of is_map n }) x ≡ Some t → Good s → Good t
+opens_by s t None n drops is_map small deep e is good = no_state t is
+opens_by s t (Some after) n drops is_map small deep e is good =
+    let inner : State = record s { level = fresh drops is_map n; outer = after ∷ s.outer; bytes = s.bytes ++ start_of is_map n } in
+    subst (λ (u : State). Good u) (state_is inner t is) (nested s after n drops is_map small deep e good)
 
-or_not : (a b : Bool) → (a || not b) ≡ false → b ≡ true
-or_not true b e = absurd cc
-or_not false true e = refl
-or_not false false e = absurd cc
-
-opens_good : (s t : State) (n : Option ℕ) (is_map : Bool) → is_count n ≡ true → opens s (start_of is_map n) (opened n is_map) ≡ Some t → Good s → Good t
-opens_good s t n is_map count is good =
-    let tests = if_false (s.flattens || not (nat_lt (length s.outer) 127)) _ t is in
-    opens_by s t (after_item s.level) n is_map (count_is n count) (ltb-true (length s.outer) 127 (or_not s.flattens (nat_lt (length s.outer) 127) tests.0)) refl tests.1 good
+opens_good : (s t : State) (n : Option ℕ) (drops is_map : Bool) → opens s (start_of is_map n) (fresh drops is_map n) ≡ Some t → Good s → Good t
+opens_good s t n drops is_map is good =
+    let tests = if_true (is_count n && (not s.flattens && nat_lt (length s.outer) 127)) _ t is in
+    let few = and_right (not s.flattens) (nat_lt (length s.outer) 127) (and_right (is_count n) (not s.flattens && nat_lt (length s.outer) 127) tests.0) in
+    opens_by s t (after_item s.level) n drops is_map (count_is n (and_left (is_count n) (not s.flattens && nat_lt (length s.outer) 127) tests.0)) (ltb-true (length s.outer) 127 few) refl tests.1 good
 
 flat_same : (outer : List Level) (l : Level) (n : ℕ) (bs : List ℕ) → Completes outer (record l { flat = n }) bs → Completes outer l bs
 flat_same [] l n bs due = due
@@ -294,9 +294,29 @@ joined_good s t is good =
     subst (λ (u : State). Good u) (state_is more_flat t (if_true (nat_lt (s.level.flat + 1) (2 ^ 64)) (Some more_flat) t is).1)
     (λ more due. good more (flat_same s.outer s.level (s.level.flat + 1) more due))
 
-map_by : (s t : State) (b : Bool) (n : Option ℕ) → is_count n ≡ true → (if b then joined s else opens s (map_start n) (opened n true)) ≡ Some t → Good s → Good t
-map_by s t true n count is good = joined_good s t is good
-map_by s t false n count is good = opens_good s t n true count is good
+map_opens_good : (arrays : Bool) (s t : State) (n : Option ℕ) → map_opens arrays s n ≡ Some t → Good s → Good t
+map_opens_good true s t n is good =
+    let waits : State = record s { begun = Some n } in
+    subst (λ (u : State). Good u) (state_is waits t is) good
+map_opens_good false s t n is good = opens_good s t n false true is good
+
+map_by : (arrays : Bool) (s t : State) (b : Bool) (n : Option ℕ) → (if b then joined s else map_opens arrays s n) ≡ Some t → Good s → Good t
+map_by arrays s t true n is good = joined_good s t is good
+map_by arrays s t false n is good = map_opens_good arrays s t n is good
+
+begins_good : (is_field : Bool) (s t : State) (x : Option (Option ℕ)) → begins is_field s x ≡ Some t → Good s → Good t
+begins_good b s t None is good = subst (λ (u : State). Good u) (state_is s t is) good
+begins_good true s t (Some n) is good = opens_good (record s { begun = None }) t n true false is good
+begins_good false s t (Some n) is good = opens_good (record s { begun = None }) t n false true is good
+
+named_good : (o : Options) (s t : State) (name : List ℕ) → named o s name ≡ Some t → Good s → Good t
+named_good o s t name is good =
+    let tests = if_true (is_text name) (item s (name_bytes o.integer_keys name)) t is in
+    item_good s t _ (name_leaf o.integer_keys name tests.0) tests.1 good
+
+field_by : (o : Options) (s t : State) (b : Bool) (name : List ℕ) → (if b then Some s else named o s name) ≡ Some t → Good s → Good t
+field_by o s t true name is good = subst (λ (u : State). Good u) (state_is s t is) good
+field_by o s t false name is good = named_good o s t name is good
 
 -- ---- events
 
@@ -325,23 +345,27 @@ taken_good o s t (event.character c) h is good = item_good s t _ (text_leaf (enc
 taken_good o s t (event.text bs) h is good = item_good s t _ (text_leaf bs h) is good
 taken_good o s t (event.octets bs) h is good = item_good s t _ (bytes_leaf bs h) is good
 taken_good o s t event.nothing h is good = nothing_by s t s.flattens is good
-taken_good o s t (event.unit_variant name case) h is good = item_good s t _ (text_leaf (spelled case Variant name) h) is good
-taken_good o s t (event.seq_begins n) h is good = opens_good s t n false h is good
+taken_good o s t (event.unit_variant name case) h is good = named_good o s t (spelled case Variant name) is good
+taken_good o s t (event.seq_begins n) h is good = opens_good s t n false false is good
 taken_good o s t event.seq_ends h is good = ends_good s t is good
-taken_good o s t (event.map_begins n) h is good = map_by s t s.flattens n h is good
+taken_good o s t (event.map_begins n) h is good = map_by o.structs_as_arrays s t s.flattens n is good
 taken_good o s t event.map_ends h is good = ends_good s t is good
-taken_good o s t (event.field_key name case) h is good = item_good s t _ (name_leaf o.integer_keys (spelled case Field name) h) is good
-taken_good o s t (event.variant_key name case) h is good = item_good s t _ (text_leaf (spelled case Variant name) h) is good
+taken_good o s t (event.field_key name case) h is good = field_by o s t s.level.drops_names (spelled case Field name) is good
+taken_good o s t (event.variant_key name case) h is good = named_good o s t (spelled case Variant name) is good
 taken_good o s t event.key_begins h is good = subst (λ (u : State). Good u) (state_is s t is) good
 taken_good o s t event.key_ends h is good = subst (λ (u : State). Good u) (state_is s t is) good
 taken_good o s t event.flattens h is good =
     let next : State = record s { flattens = true } in
-    subst (λ (u : State). Good u) (state_is next t is) good
+    subst (λ (u : State). Good u) (state_is next t (if_false o.structs_as_arrays (Some next) t is).1) good
+
+settled_good : (o : Options) (s t : State) (e : Event) (x : Option State) → may_come e ≡ true → begins (is_field o e) s s.begun ≡ x → then_taken o e x ≡ Some t → Good s → Good t
+settled_good o s t e None h settled is good = no_state t is
+settled_good o s t e (Some u) h settled is good = taken_good o u t e h is (begins_good (is_field o e) s u s.begun settled good)
 
 step_good : (o : Options) (s t : State) (e : Event) → step o s e ≡ Some t → Good s → Good t
 step_good o s t e is good =
-    let comes = if_true (may_come e) (taken o s e) t is in
-    taken_good o s t e comes.0 comes.1 good
+    let comes = if_true (may_come e) (then_taken o e (begins (is_field o e) s s.begun)) t is in
+    settled_good o s t e (begins (is_field o e) s s.begun) comes.0 refl comes.1 good
 
 run_by : (o : Options) (s t : State) (e : Event) (x : Option State) (rest : State → Option State) → step o s e ≡ x → option_and_then rest x ≡ Some t
     → ((u : State) → rest u ≡ Some t → Good u → Good t) → Good s → Good t

@@ -1,5 +1,5 @@
 -- The bytes that each event of serde's is written as.
-use Rattle.std.specs.Prelude.{◌≡◌, ℕ, zero, suc, ◌+◌, ◌-◌, ◌^◌, ℤ, pos, negsuc, Bool, true, false, not, ◌&&◌, ◌||◌, ◌==◌, nat_lt, if◌then◌else◌, Option, Some, None, option_map, option_and_then, List, [], ◌∷◌, ◌++◌, length, encode_utf8, IfSome}
+use Rattle.std.specs.Prelude.{◌≡◌, ℕ, zero, suc, ◌+◌, ◌-◌, ◌^◌, ℤ, pos, negsuc, Bool, true, false, not, ◌&&◌, ◌==◌, nat_lt, if◌then◌else◌, Option, Some, None, option_map, option_and_then, is_some, List, [], ◌∷◌, ◌++◌, length, encode_utf8, IfSome}
 use Rattle.std.specs.Str.{is_utf8}
 use Rattle.std.specs.List.{list_all}
 use Rattle.cbor_model.specs.Acceptable.{IsAcceptable, max_depth}
@@ -22,15 +22,21 @@ pub record State : Type 0 where
   pub level : Level
   pub outer : List Level
   pub flattens : Bool
+  -- the length that a map declares which has begun, if its head waits for what comes first in it
+  pub begun : Option (Option ℕ)
 
 -- ---- what is due
 
 abbrev pub opened : Option ℕ → Bool → Level
-opened left is_map = record { left = left; is_map = is_map; at_value = false; flat = 0 }
+opened left is_map = record { left = left; is_map = is_map; at_value = false; flat = 0; drops_names = false }
+
+-- an array of a struct's fields, whose names aren't written
+abbrev pub fields : Option ℕ → Level
+fields left = record { left = left; is_map = false; at_value = false; flat = 0; drops_names = true }
 
 -- the document is one item
 abbrev pub start : State
-start = record { bytes = []; level = opened (Some 1) false; outer = []; flattens = false }
+start = record { bytes = []; level = opened (Some 1) false; outer = []; flattens = false; begun = None }
 
 -- one less is to come, where any is
 abbrev pub counted_down : Option ℕ → Option (Option ℕ)
@@ -96,16 +102,11 @@ abbrev pub is_count : Option ℕ → Bool
 is_count None = true
 is_count (Some n) = nat_lt n (2 ^ 64)
 
--- Texts and names are UTF-8, and lengths are below 2^64.
+-- Strings are bytes, fewer than 2^64, and texts are UTF-8.
 abbrev pub may_come : Event → Bool
 may_come (character c) = is_text (encode_utf8 c)
 may_come (text t) = is_text t
 may_come (octets bs) = is_bytes bs
-may_come (unit_variant name case) = is_text (spelled case Variant name)
-may_come (seq_begins n) = is_count n
-may_come (map_begins n) = is_count n
-may_come (field_key name case) = is_text (spelled case Field name)
-may_come (variant_key name case) = is_text (spelled case Variant name)
 may_come _ = true
 
 -- ---- events
@@ -116,11 +117,12 @@ item s bs =
     if s.flattens then None
     else option_map (λ l. record s { level = l; bytes = s.bytes ++ bs }) (after_item s.level)
 
--- an array or a map begins, of so many items or pairs, within fewer than 127 others
+-- an array or a map begins, of fewer than 2^64 items or pairs, within fewer than 127 others
 abbrev pub opens : State → List ℕ → Level → Option State
 opens s bs l =
-    if s.flattens || not (nat_lt (length s.outer) max_depth) then None
-    else option_map (λ after. record s { level = l; outer = after ∷ s.outer; bytes = s.bytes ++ bs }) (after_item s.level)
+    if is_count l.left && (not s.flattens && nat_lt (length s.outer) max_depth)
+    then option_map (λ after. record s { level = l; outer = after ∷ s.outer; bytes = s.bytes ++ bs }) (after_item s.level)
+    else None
 
 -- the level around is the innermost again
 abbrev pub closed : State → List Level → Option State
@@ -140,7 +142,35 @@ joined s =
     then Some (record s { flattens = false; level = record s.level { flat = s.level.flat + 1 } })
     else None
 
--- what an event that a program can send makes of it; None where it may not come there
+-- a name, which is UTF-8, or the integer that it is where that is asked for
+abbrev pub named : Options → State → List ℕ → Option State
+named o s name = if is_text name then item s (name_bytes o.integer_keys name) else None
+
+-- ---- structs as arrays
+
+-- a name that is no integer, where names may be integers
+abbrev pub is_plain : Bool → List ℕ → Bool
+is_plain integer_keys name = not (integer_keys && is_some (key_number name))
+
+-- a field whose name is no integer
+abbrev pub is_field : Options → Event → Bool
+is_field o (field_key name case) = is_plain o.integer_keys (spelled case Field name)
+is_field o _ = false
+
+-- a map that waited is the array of a struct's fields, if such a field comes first
+abbrev pub begins : Bool → State → Option (Option ℕ) → Option State
+begins is_field s None = Some s
+begins true s (Some n) = opens (record s { begun = None }) (array_start n) (fields n)
+begins false s (Some n) = opens (record s { begun = None }) (map_start n) (opened n true)
+
+-- a map begins; its head waits where it may be the array of a struct's fields
+abbrev pub map_opens : Bool → State → Option ℕ → Option State
+map_opens true s n = Some (record s { begun = Some n })
+map_opens false s n = opens s (map_start n) (opened n true)
+
+-- ---- what an event makes of it; None where it may not come there
+
+-- where nothing waits, of an event that a program can send
 abbrev pub taken : Options → State → Event → Option State
 taken o s (boolean b) = item s ((if b then 0xf5 else 0xf4) ∷ [])
 taken o s (signed z) = option_and_then (item s) (stored z)
@@ -151,20 +181,23 @@ taken o s (character c) = item s (string 3 (encode_utf8 c))
 taken o s (text t) = item s (string 3 t)
 taken o s (octets bs) = item s (string 2 bs)
 taken o s nothing = if s.flattens then Some (record s { flattens = false }) else item s (0xf6 ∷ [])
-taken o s (unit_variant name case) = item s (string 3 (spelled case Variant name))
+taken o s (unit_variant name case) = named o s (spelled case Variant name)
 taken o s (seq_begins n) = opens s (array_start n) (opened n false)
 taken o s seq_ends = ends s
-taken o s (map_begins n) = if s.flattens then joined s else opens s (map_start n) (opened n true)
+taken o s (map_begins n) = if s.flattens then joined s else map_opens o.structs_as_arrays s n
 taken o s map_ends = ends s
-taken o s (field_key name case) = item s (name_bytes o.integer_keys (spelled case Field name))
-taken o s (variant_key name case) = item s (string 3 (spelled case Variant name))
+taken o s (field_key name case) = if s.level.drops_names then Some s else named o s (spelled case Field name)
+taken o s (variant_key name case) = named o s (spelled case Variant name)
 taken o s key_begins = Some s
 taken o s key_ends = Some s
-taken o s flattens = Some (record s { flattens = true })
+taken o s flattens = if o.structs_as_arrays then None else Some (record s { flattens = true })
 
--- what an event makes of it; None where the event may not come
+abbrev pub then_taken : Options → Event → Option State → Option State
+then_taken o e None = None
+then_taken o e (Some s) = taken o s e
+
 abbrev pub step : Options → State → Event → Option State
-step o s e = if may_come e then taken o s e else None
+step o s e = if may_come e then then_taken o e (begins (is_field o e) s s.begun) else None
 
 abbrev pub run : Options → State → List Event → Option State
 run o s [] = Some s

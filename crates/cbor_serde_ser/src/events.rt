@@ -1,11 +1,10 @@
 //! What each call of a `Serializer` writes.
 
-ghost use Rattle.std.specs.Prelude.{◌≡◌, Some, true, string_bytes, OnOk};
+ghost use Rattle.std.specs.Prelude.{◌≡◌, string_bytes, OnOk};
 ghost use Rattle.serde.specs.Event.{boolean, signed, unsigned, single, double, character};
 ghost use Rattle.serde.specs.Event.{text as text_event, octets, nothing, unit_variant, seq_begins};
 ghost use Rattle.serde.specs.Event.{seq_ends, map_begins, map_ends, field_key, key_begins, key_ends};
 ghost use Rattle.serde.specs.Event.{variant_key as variant_event, flattens as flatten_event};
-ghost use Rattle.cbor_serde_ser.specs.Document.{is_count};
 ghost use Rattle.cbor_serde_ser.specs.State.{Writes};
 
 use crate::bytes::{put, put_float, put_head, put_integer, put_string, put_text};
@@ -21,6 +20,7 @@ impl Writer {
         ensures step { OnOk result (Writes self.old (boolean v) self.new) }
         ensures options { self.new.options ≡ self.old.options }
     {
+        self.settle()?;
         self.item()?;
         put(&mut self.out, &[if v { 0xf5 } else { 0xf4 }])?;
         Ok(())
@@ -30,6 +30,7 @@ impl Writer {
         ensures step { OnOk result (Writes self.old (signed v) self.new) }
         ensures options { self.new.options ≡ self.old.options }
     {
+        self.settle()?;
         self.item()?;
         if v >= 0 {
             put_head(&mut self.out, Major::UnsignedInteger, v as u64)?;
@@ -43,6 +44,7 @@ impl Writer {
         ensures step { OnOk result (Writes self.old (unsigned v) self.new) }
         ensures options { self.new.options ≡ self.old.options }
     {
+        self.settle()?;
         self.item()?;
         put_head(&mut self.out, Major::UnsignedInteger, v)?;
         Ok(())
@@ -52,6 +54,7 @@ impl Writer {
         ensures step { OnOk result (Writes self.old (signed v) self.new) }
         ensures options { self.new.options ≡ self.old.options }
     {
+        self.settle()?;
         self.item()?;
         put_integer(self.alloc, &mut self.out, v)
     }
@@ -60,6 +63,7 @@ impl Writer {
         ensures step { OnOk result (Writes self.old (unsigned v) self.new) }
         ensures options { self.new.options ≡ self.old.options }
     {
+        self.settle()?;
         self.item()?;
         match u64::try_from(v) {
             Ok(n) => {
@@ -74,6 +78,7 @@ impl Writer {
         ensures step { OnOk result (Writes self.old (single v) self.new) }
         ensures options { self.new.options ≡ self.old.options }
     {
+        self.settle()?;
         self.item()?;
         let width = of_single(v, self.options.shortest_floats);
         put_float(&mut self.out, width)?;
@@ -84,6 +89,7 @@ impl Writer {
         ensures step { OnOk result (Writes self.old (double v) self.new) }
         ensures options { self.new.options ≡ self.old.options }
     {
+        self.settle()?;
         self.item()?;
         let width = of_double(v, self.options.shortest_floats);
         put_float(&mut self.out, width)?;
@@ -94,6 +100,7 @@ impl Writer {
         ensures step { OnOk result (Writes self.old (character v) self.new) }
         ensures options { self.new.options ≡ self.old.options }
     {
+        self.settle()?;
         self.item()?;
         let mut bytes = [0; 4];
         let text = v.encode_utf8(&mut bytes);
@@ -105,6 +112,7 @@ impl Writer {
         ensures step { OnOk result (Writes self.old (text_event v.now) self.new) }
         ensures options { self.new.options ≡ self.old.options }
     {
+        self.settle()?;
         self.item()?;
         put_text(&mut self.out, v)?;
         Ok(())
@@ -114,6 +122,7 @@ impl Writer {
         ensures step { OnOk result (Writes self.old (octets v.now) self.new) }
         ensures options { self.new.options ≡ self.old.options }
     {
+        self.settle()?;
         self.item()?;
         put_string(&mut self.out, Major::ByteString, v)?;
         Ok(())
@@ -124,6 +133,7 @@ impl Writer {
         ensures step { OnOk result (Writes self.old nothing self.new) }
         ensures options { self.new.options ≡ self.old.options }
     {
+        self.settle()?;
         if self.flattens {
             self.flattens = false;
             return Ok(());
@@ -137,13 +147,15 @@ impl Writer {
         ensures step { OnOk result (Writes self.old (unit_variant name.now case) self.new) }
         ensures options { self.new.options ≡ self.old.options }
     {
-        self.name(name, case, NameKind::Variant, false)
+        self.settle()?;
+        self.name(name, case, NameKind::Variant, self.options.integer_keys)
     }
 
     pub(crate) fn begin_seq(&mut self, len: Option<usize>) -> Result<()>
         ensures step { OnOk result (Writes self.old (seq_begins len) self.new) }
         ensures options { self.new.options ≡ self.old.options }
     {
+        self.settle()?;
         self.begin(Level::open(counted(len), false))
     }
 
@@ -151,6 +163,7 @@ impl Writer {
         ensures step { OnOk result (Writes self.old seq_ends self.new) }
         ensures options { self.new.options ≡ self.old.options }
     {
+        self.settle()?;
         self.end()
     }
 
@@ -158,12 +171,17 @@ impl Writer {
         ensures step { OnOk result (Writes self.old (map_begins len) self.new) }
         ensures options { self.new.options ≡ self.old.options }
     {
+        self.settle()?;
         if self.flattens {
             if self.level.flat == u64::MAX {
                 return Err(self.refuse("too many maps are flattened"));
             }
             self.flattens = false;
             self.level.flat += 1;
+            return Ok(());
+        }
+        if self.options.structs_as_arrays {
+            self.begun = Some(counted(len));
             return Ok(());
         }
         self.begin(Level::open(counted(len), true))
@@ -173,6 +191,7 @@ impl Writer {
         ensures step { OnOk result (Writes self.old map_ends self.new) }
         ensures options { self.new.options ≡ self.old.options }
     {
+        self.settle()?;
         self.end()
     }
 
@@ -180,6 +199,10 @@ impl Writer {
         ensures step { OnOk result (Writes self.old (field_key name.now case) self.new) }
         ensures options { self.new.options ≡ self.old.options }
     {
+        self.settle_field(name, case)?;
+        if self.level.drops_names {
+            return Ok(());
+        }
         self.name(name, case, NameKind::Field, self.options.integer_keys)
     }
 
@@ -187,30 +210,35 @@ impl Writer {
         ensures step { OnOk result (Writes self.old (variant_event name.now case) self.new) }
         ensures options { self.new.options ≡ self.old.options }
     {
-        self.name(name, case, NameKind::Variant, false)
+        self.settle()?;
+        self.name(name, case, NameKind::Variant, self.options.integer_keys)
     }
 
     pub(crate) fn flatten_next(&mut self) -> Result<()>
         ensures step { OnOk result (Writes self.old flatten_event self.new) }
         ensures options { self.new.options ≡ self.old.options }
     {
+        if self.options.structs_as_arrays {
+            return Err(self.refuse("a flattened field has no place in an array"));
+        }
+        self.settle()?;
         self.flattens = true;
         Ok(())
     }
 
-    // A key is an item like any other.
+    // A key is an item like any other, but that it tells a map from a struct.
     pub(crate) fn begin_key(&mut self) -> Result<()>
         ensures step { OnOk result (Writes self.old key_begins self.new) }
         ensures options { self.new.options ≡ self.old.options }
     {
-        Ok(())
+        self.settle()
     }
 
     pub(crate) fn end_key(&mut self) -> Result<()>
         ensures step { OnOk result (Writes self.old key_ends self.new) }
         ensures options { self.new.options ≡ self.old.options }
     {
-        Ok(())
+        self.settle()
     }
 
     // The printed text stays in the room.
@@ -219,6 +247,7 @@ impl Writer {
             (Writes self.old (text_event (string_bytes self.new.room)) self.new) }
         ensures options { self.new.options ≡ self.old.options }
     {
+        self.settle()?;
         self.item()?;
         self.room.clear();
         if write!(self.room, "{value}").is_err() {
@@ -234,10 +263,8 @@ impl Writer {
 }
 
 // A length as a count of 64 bits.
-#[tactic(auto, using(crate::proofs::Contents::count_passes))]
 fn counted(len: Option<usize>) -> Option<u64>
-    ensures same { result ≡ len }
-    ensures count { is_count len ≡ true }
+    ensures { result ≡ len }
 {
     match len {
         Some(n) => Some(n as u64),

@@ -1,7 +1,7 @@
 //! The arrays and maps that are open while events are written.
 
 ghost use Rattle.std.specs.Prelude.{◌≡◌, ◌↔◌, Some, None, true, false, IsTrue, MatchBool};
-ghost use Rattle.cbor_serde_ser.specs.Document.{after_item, is_full, opened};
+ghost use Rattle.cbor_serde_ser.specs.Document.{after_item, fields, is_full, opened};
 
 /// An array, a map or the document itself, and what is due in it.
 #[derive(Clone, Copy)]
@@ -13,6 +13,8 @@ pub(crate) struct Level {
     pub(crate) at_value: bool,
     // How many open maps stand within it whose members are its own.
     pub(crate) flat: u64,
+    // Whether its items are a struct's fields, whose names aren't written.
+    pub(crate) drops_names: bool,
 }
 
 impl Level {
@@ -32,6 +34,17 @@ impl Level {
             is_map,
             at_value: false,
             flat: 0,
+            drops_names: false,
+        }
+    }
+
+    /// The array of a struct's fields that begins.
+    pub(crate) fn fields(left: Option<u64>) -> Level
+        ensures { result ≡ fields left }
+    {
+        Level {
+            drops_names: true,
+            ..Level::open(left, false)
         }
     }
 

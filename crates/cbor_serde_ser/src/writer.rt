@@ -2,15 +2,16 @@
 
 ghost use Rattle.std.specs.Prelude.{◌≡◌, ◌++◌, Some, true, false, IfOk, OnOk};
 ghost use Rattle.serde.specs.Spelling.{spelled};
-ghost use Rattle.cbor_serde_ser.specs.Document.{after_item, start, item, opens, ends, opened};
-ghost use Rattle.cbor_serde_ser.specs.Document.{is_text, level_start, name_bytes, whole};
+ghost use Rattle.serde.specs.declared.name.NameKind.TheVariants.{Field};
+ghost use Rattle.cbor_serde_ser.specs.Document.{after_item, begins, start, item, opens, ends};
+ghost use Rattle.cbor_serde_ser.specs.Document.{is_plain, is_text, level_start, name_bytes, whole};
 ghost use Rattle.cbor_serde_ser.specs.State.{state};
 
 use crate::bytes::{put, put_head, put_name};
 use crate::level::Level;
 use crate::refusal::{Refusal, Result};
 use cbor_io::head::Major;
-use cbor_serde_options::Options;
+use cbor_serde_options::{Options, number_of};
 use serde::{Case, NameKind};
 use std::alloc::Global;
 
@@ -28,6 +29,8 @@ pub(crate) struct Writer {
     pub(crate) outer: Vec<Level>,
     // Whether the next map's members go into the map that is open.
     pub(crate) flattens: bool,
+    // The length that a map declares whose head waits for what comes first in it.
+    pub(crate) begun: Option<Option<u64>>,
     // Room for a name in another case, and for printed text.
     pub(crate) room: String,
 }
@@ -45,6 +48,7 @@ impl Writer {
             level: Level::document(),
             outer: Vec::new(alloc),
             flattens: false,
+            begun: None,
             room: String::new(alloc),
         }
     }
@@ -72,7 +76,68 @@ impl Writer {
         Ok(out)
     }
 
-    // An item comes.
+    // Writes the head that waits, where what comes is no field.
+    #[inline(always)]
+    pub(crate) fn settle(&mut self) -> Result<()>
+        ensures begins { OnOk result
+            (begins false (state self.old) self.old.begun ≡ Some (state self.new)) }
+        ensures options { self.new.options ≡ self.old.options }
+    {
+        match self.begun {
+            None => Ok(()),
+            Some(left) => self.begin_at_last(left, false),
+        }
+    }
+
+    // Writes the head that waits, where a field comes.
+    #[inline(always)]
+    pub(crate) fn settle_field(&mut self, name: &str, case: Case) -> Result<()>
+        ensures begins { OnOk result
+            (begins (is_plain self.old.options.integer_keys (spelled case Field name.now))
+            (state self.old) self.old.begun ≡ Some (state self.new)) }
+        ensures options { self.new.options ≡ self.old.options }
+    {
+        match self.begun {
+            None => Ok(()),
+            Some(left) => {
+                let is_field = self.is_plain(name, case)?;
+                self.begin_at_last(left, is_field)
+            }
+        }
+    }
+
+    // Whether the name of a field is no integer, where names may be integers.
+    #[inline(never)]
+    fn is_plain(&mut self, name: &str, case: Case) -> Result<bool>
+        ensures plain { IfOk result
+            (λ b. b ≡ is_plain self.old.options.integer_keys (spelled case Field name.now)) }
+        ensures rest { self.new ≡ record self.old { room = self.new.room } }
+    {
+        if !self.options.integer_keys {
+            return Ok(true);
+        }
+        self.room.clear();
+        case.append(NameKind::Field, name, &mut self.room)?;
+        Ok(number_of(self.room.as_str()).is_none())
+    }
+
+    // Writes the head of the map that waits.
+    #[inline(never)]
+    fn begin_at_last(&mut self, left: Option<u64>, is_field: bool) -> Result<()>
+        ensures begins { OnOk result
+            (begins is_field (state self.old) (Some left) ≡ Some (state self.new)) }
+        ensures options { self.new.options ≡ self.old.options }
+    {
+        self.begun = None;
+        let level = if is_field {
+            Level::fields(left)
+        } else {
+            Level::open(left, true)
+        };
+        self.begin(level)
+    }
+
+    // An item comes, where nothing waits.
     #[inline(always)]
     pub(crate) fn item(&mut self) -> Result<()>
         ensures due { OnOk result ((self.old.flattens ≡ false)
@@ -89,9 +154,8 @@ impl Writer {
     }
 
     // An array or a map begins.
-    #[tactic(auto, using(crate::proofs::Opening::few_around))]
+    #[tactic(auto, using(crate::proofs::Opening::few_around, crate::proofs::Contents::count_passes))]
     pub(crate) fn begin(&mut self, level: Level) -> Result<()>
-        requires { level ≡ opened level.left level.is_map }
         ensures opens { OnOk result
             (opens (state self.old) (level_start level) level ≡ Some (state self.new)) }
         ensures options { self.new.options ≡ self.old.options }
