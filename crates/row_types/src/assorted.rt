@@ -2,9 +2,11 @@
 
 use crate::structs::UnitStruct;
 use serde_cbor::bytes::ByteBuf;
-use serde_cbor::de::{Deserialize, DeserializeOwned, Read, ReadByParts, Readable, read_described};
+use serde_cbor::de::{
+    Deserialize, DeserializeOwned, Read, Readable, ReadableParts, read_described,
+};
 use serde_cbor::parts::Schema;
-use serde_cbor::ser::{Serialize, Serializer, Write, WrittenByParts};
+use serde_cbor::ser::{PartsDocument, Serialize, Serializer, Write};
 use serde_cbor::{Deserializer, Result};
 use std::collections::BTreeMap;
 
@@ -64,7 +66,8 @@ impl Schema for Assorted {
 }
 
 impl Serialize for Assorted {
-    ghost document = { ⟦<Assorted as WrittenByParts>⟧.document };
+    ghost document = { λ x. ⟦<<Assorted as Schema>::Parts as PartsDocument>⟧.document
+        ⟦<Assorted as Schema>⟧.names (⟦<Assorted as Schema>⟧.parts x) };
 
     fn serialize<W: Write>(&self, ser: &mut Serializer<W>) -> Result<()> {
         let fields = (
@@ -80,9 +83,10 @@ impl Serialize for Assorted {
 }
 
 impl Readable for Assorted {
-    ghost reads = { ⟦<Assorted as ReadByParts>⟧.reads };
+    ghost reads = { λ c r x. ⟦<<Assorted as Schema>::Parts as ReadableParts>⟧.reads
+        ⟦<Assorted as Schema>⟧.names c r (⟦<Assorted as Schema>⟧.parts x) };
 
-    ghost wrong_forms = { ⟦<Assorted as ReadByParts>⟧.wrong_forms };
+    ghost wrong_forms = { ⟦<<Assorted as Schema>::Parts as ReadableParts>⟧.wrong_forms };
 }
 
 impl<'de, R: Read<'de>> Deserialize<'de, R> for Assorted {

@@ -1,8 +1,10 @@
 //! Enums, with variants of each kind.
 
-use serde_cbor::de::{Deserialize, DeserializeOwned, Read, ReadByParts, Readable, read_described};
+use serde_cbor::de::{
+    Deserialize, DeserializeOwned, Read, ReadByParts, Readable, ReadableParts, read_described,
+};
 use serde_cbor::parts::{FieldNames, Newtype, OneOf1, OneOf2, OneOf3, Schema, Struct, Tuple};
-use serde_cbor::ser::{NamedFields, Serialize, Serializer, Write, WrittenByParts};
+use serde_cbor::ser::{NamedFields, PartsDocument, Serialize, Serializer, Write, WrittenByParts};
 use serde_cbor::{Deserializer, Result};
 
 #[derive(Debug, Drop)]
@@ -71,7 +73,8 @@ impl Schema for DataEnum {
 }
 
 impl Serialize for DataEnum {
-    ghost document = { ⟦<DataEnum as WrittenByParts>⟧.document };
+    ghost document = { λ x. ⟦<<DataEnum as Schema>::Parts as PartsDocument>⟧.document
+        ⟦<DataEnum as Schema>⟧.names (⟦<DataEnum as Schema>⟧.parts x) };
 
     fn serialize<W: Write>(&self, ser: &mut Serializer<W>) -> Result<()> {
         match self {
@@ -87,9 +90,10 @@ impl Serialize for DataEnum {
 }
 
 impl Readable for DataEnum {
-    ghost reads = { ⟦<DataEnum as ReadByParts>⟧.reads };
+    ghost reads = { λ c r x. ⟦<<DataEnum as Schema>::Parts as ReadableParts>⟧.reads
+        ⟦<DataEnum as Schema>⟧.names c r (⟦<DataEnum as Schema>⟧.parts x) };
 
-    ghost wrong_forms = { ⟦<DataEnum as ReadByParts>⟧.wrong_forms };
+    ghost wrong_forms = { ⟦<<DataEnum as Schema>::Parts as ReadableParts>⟧.wrong_forms };
 }
 
 impl<'de, R: Read<'de>> Deserialize<'de, R> for DataEnum {

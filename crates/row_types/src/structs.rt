@@ -1,9 +1,11 @@
 //! A struct of a field that may be absent, one of an unnamed part, one of none, and one of names of
 //! one letter.
 
-use serde_cbor::de::{Deserialize, DeserializeOwned, Read, ReadByParts, Readable, read_described};
+use serde_cbor::de::{
+    Deserialize, DeserializeOwned, Read, ReadByParts, Readable, ReadableParts, read_described,
+};
 use serde_cbor::parts::{Newtype, Optional, Schema};
-use serde_cbor::ser::{OptionalField, Serialize, Serializer, Write, WrittenByParts};
+use serde_cbor::ser::{OptionalField, PartsDocument, Serialize, Serializer, Write, WrittenByParts};
 use serde_cbor::{Deserializer, Result};
 
 /// A struct of which a field is left out where it isn't known.
@@ -42,7 +44,8 @@ impl Schema for OptionalPerson {
 }
 
 impl Serialize for OptionalPerson {
-    ghost document = { ⟦<OptionalPerson as WrittenByParts>⟧.document };
+    ghost document = { λ x. ⟦<<OptionalPerson as Schema>::Parts as PartsDocument>⟧.document
+        ⟦<OptionalPerson as Schema>⟧.names (⟦<OptionalPerson as Schema>⟧.parts x) };
 
     fn serialize<W: Write>(&self, ser: &mut Serializer<W>) -> Result<()> {
         let fields = (
@@ -55,9 +58,10 @@ impl Serialize for OptionalPerson {
 }
 
 impl Readable for OptionalPerson {
-    ghost reads = { ⟦<OptionalPerson as ReadByParts>⟧.reads };
+    ghost reads = { λ c r x. ⟦<<OptionalPerson as Schema>::Parts as ReadableParts>⟧.reads
+        ⟦<OptionalPerson as Schema>⟧.names c r (⟦<OptionalPerson as Schema>⟧.parts x) };
 
-    ghost wrong_forms = { ⟦<OptionalPerson as ReadByParts>⟧.wrong_forms };
+    ghost wrong_forms = { ⟦<<OptionalPerson as Schema>::Parts as ReadableParts>⟧.wrong_forms };
 }
 
 impl<'de, R: Read<'de>> Deserialize<'de, R> for OptionalPerson {
@@ -194,7 +198,8 @@ impl Schema for Brief {
 }
 
 impl Serialize for Brief {
-    ghost document = { ⟦<Brief as WrittenByParts>⟧.document };
+    ghost document = { λ x. ⟦<<Brief as Schema>::Parts as PartsDocument>⟧.document
+        ⟦<Brief as Schema>⟧.names (⟦<Brief as Schema>⟧.parts x) };
 
     fn serialize<W: Write>(&self, ser: &mut Serializer<W>) -> Result<()> {
         ser.serialize_fields(self, &(&self.a, &self.b))
@@ -202,9 +207,10 @@ impl Serialize for Brief {
 }
 
 impl Readable for Brief {
-    ghost reads = { ⟦<Brief as ReadByParts>⟧.reads };
+    ghost reads = { λ c r x. ⟦<<Brief as Schema>::Parts as ReadableParts>⟧.reads
+        ⟦<Brief as Schema>⟧.names c r (⟦<Brief as Schema>⟧.parts x) };
 
-    ghost wrong_forms = { ⟦<Brief as ReadByParts>⟧.wrong_forms };
+    ghost wrong_forms = { ⟦<<Brief as Schema>::Parts as ReadableParts>⟧.wrong_forms };
 }
 
 impl<'de, R: Read<'de>> Deserialize<'de, R> for Brief {

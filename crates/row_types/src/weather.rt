@@ -1,8 +1,10 @@
 //! A struct of as many fields as are described.
 
-use serde_cbor::de::{Deserialize, DeserializeOwned, Read, ReadByParts, Readable, read_described};
+use serde_cbor::de::{
+    Deserialize, DeserializeOwned, Read, Readable, ReadableParts, read_described,
+};
 use serde_cbor::parts::Schema;
-use serde_cbor::ser::{Serialize, Serializer, Write, WrittenByParts};
+use serde_cbor::ser::{PartsDocument, Serialize, Serializer, Write};
 use serde_cbor::{Deserializer, Result};
 
 /// What a weather station saw in an hour.
@@ -98,7 +100,8 @@ impl Schema for Weather {
 }
 
 impl Serialize for Weather {
-    ghost document = { ⟦<Weather as WrittenByParts>⟧.document };
+    ghost document = { λ x. ⟦<<Weather as Schema>::Parts as PartsDocument>⟧.document
+        ⟦<Weather as Schema>⟧.names (⟦<Weather as Schema>⟧.parts x) };
 
     fn serialize<W: Write>(&self, ser: &mut Serializer<W>) -> Result<()> {
         let fields = (
@@ -120,9 +123,10 @@ impl Serialize for Weather {
 }
 
 impl Readable for Weather {
-    ghost reads = { ⟦<Weather as ReadByParts>⟧.reads };
+    ghost reads = { λ c r x. ⟦<<Weather as Schema>::Parts as ReadableParts>⟧.reads
+        ⟦<Weather as Schema>⟧.names c r (⟦<Weather as Schema>⟧.parts x) };
 
-    ghost wrong_forms = { ⟦<Weather as ReadByParts>⟧.wrong_forms };
+    ghost wrong_forms = { ⟦<<Weather as Schema>::Parts as ReadableParts>⟧.wrong_forms };
 }
 
 impl<'de, R: Read<'de>> Deserialize<'de, R> for Weather {

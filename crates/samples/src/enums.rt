@@ -1,8 +1,10 @@
 //! Enums, with variants of each kind.
 
-use serde_cbor::de::{Deserialize, DeserializeOwned, Read, ReadByParts, Readable, read_described};
+use serde_cbor::de::{
+    Deserialize, DeserializeOwned, Read, ReadByParts, Readable, ReadableParts, read_described,
+};
 use serde_cbor::parts::{FieldNames, Newtype, OneOf4, Schema, Struct, Tuple};
-use serde_cbor::ser::{NamedFields, Serialize, Serializer, Write, WrittenByParts};
+use serde_cbor::ser::{NamedFields, PartsDocument, Serialize, Serializer, Write, WrittenByParts};
 use serde_cbor::{Deserializer, Result};
 
 /// An enum with variants of three kinds.
@@ -151,7 +153,8 @@ impl Schema for Bar {
 }
 
 impl Serialize for Bar {
-    ghost document = { ⟦<Bar as WrittenByParts>⟧.document };
+    ghost document = { λ x. ⟦<<Bar as Schema>::Parts as PartsDocument>⟧.document
+        ⟦<Bar as Schema>⟧.names (⟦<Bar as Schema>⟧.parts x) };
 
     fn serialize<W: Write>(&self, ser: &mut Serializer<W>) -> Result<()> {
         match self {
@@ -168,9 +171,10 @@ impl Serialize for Bar {
 }
 
 impl Readable for Bar {
-    ghost reads = { ⟦<Bar as ReadByParts>⟧.reads };
+    ghost reads = { λ c r x. ⟦<<Bar as Schema>::Parts as ReadableParts>⟧.reads
+        ⟦<Bar as Schema>⟧.names c r (⟦<Bar as Schema>⟧.parts x) };
 
-    ghost wrong_forms = { ⟦<Bar as ReadByParts>⟧.wrong_forms };
+    ghost wrong_forms = { ⟦<<Bar as Schema>::Parts as ReadableParts>⟧.wrong_forms };
 }
 
 impl<'de, R: Read<'de>> Deserialize<'de, R> for Bar {

@@ -1,8 +1,10 @@
 //! Structs, written as maps of their fields.
 
-use serde_cbor::de::{Deserialize, DeserializeOwned, Read, ReadByParts, Readable, read_described};
+use serde_cbor::de::{
+    Deserialize, DeserializeOwned, Read, ReadByParts, Readable, ReadableParts, read_described,
+};
 use serde_cbor::parts::Schema;
-use serde_cbor::ser::{Serialize, Serializer, Write, WrittenByParts};
+use serde_cbor::ser::{PartsDocument, Serialize, Serializer, Write, WrittenByParts};
 use serde_cbor::{Deserializer, Result};
 
 /// A struct of two fields.
@@ -149,7 +151,8 @@ impl Schema for Mascot {
 }
 
 impl Serialize for Mascot {
-    ghost document = { ⟦<Mascot as WrittenByParts>⟧.document };
+    ghost document = { λ x. ⟦<<Mascot as Schema>::Parts as PartsDocument>⟧.document
+        ⟦<Mascot as Schema>⟧.names (⟦<Mascot as Schema>⟧.parts x) };
 
     fn serialize<W: Write>(&self, ser: &mut Serializer<W>) -> Result<()> {
         ser.serialize_fields(self, &(&self.name, &self.species, &self.year_of_birth))
@@ -157,9 +160,10 @@ impl Serialize for Mascot {
 }
 
 impl Readable for Mascot {
-    ghost reads = { ⟦<Mascot as ReadByParts>⟧.reads };
+    ghost reads = { λ c r x. ⟦<<Mascot as Schema>::Parts as ReadableParts>⟧.reads
+        ⟦<Mascot as Schema>⟧.names c r (⟦<Mascot as Schema>⟧.parts x) };
 
-    ghost wrong_forms = { ⟦<Mascot as ReadByParts>⟧.wrong_forms };
+    ghost wrong_forms = { ⟦<<Mascot as Schema>::Parts as ReadableParts>⟧.wrong_forms };
 }
 
 impl<'de, R: Read<'de>> Deserialize<'de, R> for Mascot {
@@ -207,7 +211,8 @@ impl Schema for Person {
 }
 
 impl Serialize for Person {
-    ghost document = { ⟦<Person as WrittenByParts>⟧.document };
+    ghost document = { λ x. ⟦<<Person as Schema>::Parts as PartsDocument>⟧.document
+        ⟦<Person as Schema>⟧.names (⟦<Person as Schema>⟧.parts x) };
 
     fn serialize<W: Write>(&self, ser: &mut Serializer<W>) -> Result<()> {
         ser.serialize_fields(self, &(&self.name, &self.year_of_birth, &self.profession))
@@ -215,9 +220,10 @@ impl Serialize for Person {
 }
 
 impl Readable for Person {
-    ghost reads = { ⟦<Person as ReadByParts>⟧.reads };
+    ghost reads = { λ c r x. ⟦<<Person as Schema>::Parts as ReadableParts>⟧.reads
+        ⟦<Person as Schema>⟧.names c r (⟦<Person as Schema>⟧.parts x) };
 
-    ghost wrong_forms = { ⟦<Person as ReadByParts>⟧.wrong_forms };
+    ghost wrong_forms = { ⟦<<Person as Schema>::Parts as ReadableParts>⟧.wrong_forms };
 }
 
 impl<'de, R: Read<'de>> Deserialize<'de, R> for Person {

@@ -4,10 +4,12 @@ ghost use Rattle.std.specs.Prelude.{map};
 ghost use Rattle.serde_cbor.specs.Schemas.{newtype, optional, or_default};
 ghost use Rattle.use_device_config.specs.declared.config.TheConstants.{CONFIG, MODE};
 
-use serde_cbor::de::{Deserialize, DeserializeOwned, Read, ReadByParts, Readable, read_described};
+use serde_cbor::de::{
+    Deserialize, DeserializeOwned, Read, ReadByParts, Readable, ReadableParts, read_described,
+};
 use serde_cbor::parts::{Newtype, OneOf2, Optional, OrDefault, Schema};
-use serde_cbor::round_trip::RoundTripByParts;
-use serde_cbor::ser::{OptionalField, Serialize, Serializer, Write, WrittenByParts};
+use serde_cbor::round_trip::{PartsRoundTrip, RoundTripByParts};
+use serde_cbor::ser::{OptionalField, PartsDocument, Serialize, Serializer, Write, WrittenByParts};
 use serde_cbor::{Deserializer, Result, RoundTrip};
 
 /// When a device measures.
@@ -117,7 +119,8 @@ impl Schema for Config {
 }
 
 impl Serialize for Config {
-    ghost document = { ⟦<Config as WrittenByParts>⟧.document };
+    ghost document = { λ x. ⟦<<Config as Schema>::Parts as PartsDocument>⟧.document
+        ⟦<Config as Schema>⟧.names (⟦<Config as Schema>⟧.parts x) };
 
     fn serialize<W: Write>(&self, ser: &mut Serializer<W>) -> Result<()> {
         let name = OptionalField(&self.name);
@@ -126,9 +129,10 @@ impl Serialize for Config {
 }
 
 impl Readable for Config {
-    ghost reads = { ⟦<Config as ReadByParts>⟧.reads };
+    ghost reads = { λ c r x. ⟦<<Config as Schema>::Parts as ReadableParts>⟧.reads
+        ⟦<Config as Schema>⟧.names c r (⟦<Config as Schema>⟧.parts x) };
 
-    ghost wrong_forms = { ⟦<Config as ReadByParts>⟧.wrong_forms };
+    ghost wrong_forms = { ⟦<<Config as Schema>::Parts as ReadableParts>⟧.wrong_forms };
 }
 
 impl<'de, R: Read<'de>> Deserialize<'de, R> for Config {
@@ -143,8 +147,10 @@ impl DeserializeOwned for Config {
 
 impl RoundTrip for Config {
     ghost use Rattle.std.specs.Prelude.{refl};
+    ghost use Rattle.serde_cbor.specs.TypeLaws.{by_description};
 
-    ghost law = { ⟦<Config as RoundTripByParts>⟧.law.by_names refl refl };
+    ghost law = { by_description ⟦<Config as Schema>⟧.names ⟦<Config as Schema>⟧.parts
+        ⟦<<Config as Schema>::Parts as PartsRoundTrip>⟧.law refl refl };
 
     ghost back = { Self.law.back };
 }

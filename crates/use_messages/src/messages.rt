@@ -5,7 +5,9 @@ ghost use Rattle.serde_cbor.specs.OneOf3 as one_of;
 ghost use Rattle.serde_cbor.specs.Schemas.{newtype, tuple};
 ghost use Rattle.use_messages.specs.declared.messages.TheConstants.{REPLY, REQUEST};
 
-use serde_cbor::de::{Deserialize, DeserializeOwned, Read, ReadByParts, Readable, read_described};
+use serde_cbor::de::{
+    Deserialize, DeserializeOwned, Read, ReadByParts, Readable, ReadableParts, read_described,
+};
 use serde_cbor::parts::{Newtype, OneOf3, Schema, Tuple};
 use serde_cbor::ser::{Serialize, Serializer, Write, WrittenByParts};
 use serde_cbor::{Deserializer, Result};
@@ -54,9 +56,10 @@ impl Schema for Request {
 }
 
 impl Readable for Request {
-    ghost reads = { ⟦<Request as ReadByParts>⟧.reads };
+    ghost reads = { λ c r x. ⟦<<Request as Schema>::Parts as ReadableParts>⟧.reads
+        ⟦<Request as Schema>⟧.names c r (⟦<Request as Schema>⟧.parts x) };
 
-    ghost wrong_forms = { ⟦<Request as ReadByParts>⟧.wrong_forms };
+    ghost wrong_forms = { ⟦<<Request as Schema>::Parts as ReadableParts>⟧.wrong_forms };
 }
 
 impl<'de, R: Read<'de>> Deserialize<'de, R> for Request {
