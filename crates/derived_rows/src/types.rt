@@ -4,6 +4,9 @@ use crate::answer::{of_both, of_slice};
 use crate::row::Row;
 use cbor_serde::{Options, Result};
 use derived_attributes::{Command, Id, Joined, Kind, Loud, Page, Percent, Preset, Sided, Wide};
+use derived_cose::{
+    Info, Packed, Protected, PublicKey, Sign1, Sign1Parts, SigningKey, SymmetricKey,
+};
 use derived_enums::{Adjacent, Any, Event, Hinted, Shape};
 use derived_fields::{Blob, Mixed, Nothing, Pair, Wrap};
 use derived_keys::{Attestation, Claims, CoseKey};
@@ -30,7 +33,10 @@ pub fn judge(alloc: Global, row: &Row<'_>) -> Result<Option<bool>> {
     if let Some(right) = attributes(options, alloc, row)? {
         return Ok(Some(right));
     }
-    keys(options, alloc, row)
+    if let Some(right) = keys(options, alloc, row)? {
+        return Ok(Some(right));
+    }
+    cose(options.integer_keys(), alloc, row)
 }
 
 fn structs(options: Options, alloc: Global, row: &Row<'_>) -> Result<Option<bool>> {
@@ -119,6 +125,23 @@ fn keys(options: Options, alloc: Global, row: &Row<'_>) -> Result<Option<bool>> 
         "key" => of_both::<CoseKey>(integers, alloc, row, bytes)?,
         "claims" => of_slice::<Claims>(integers, alloc, row, bytes)?,
         "attestation" => of_slice::<Attestation>(integers, alloc, row, bytes)?,
+        _ => return Ok(None),
+    };
+    Ok(Some(right))
+}
+
+fn cose(options: Options, alloc: Global, row: &Row<'_>) -> Result<Option<bool>> {
+    let bytes = row.bytes.as_slice();
+    let arrays = options.structs_as_arrays();
+    let right = match row.kind {
+        "public keys" => of_both::<Vec<PublicKey>>(options, alloc, row, bytes)?,
+        "signing key" => of_both::<SigningKey>(options, alloc, row, bytes)?,
+        "symmetric key" => of_both::<SymmetricKey>(options, alloc, row, bytes)?,
+        "protected" => of_both::<Protected>(arrays, alloc, row, bytes)?,
+        "sign1" => of_both::<Sign1>(arrays, alloc, row, bytes)?,
+        "sign1 parts" => of_both::<Sign1Parts>(options, alloc, row, bytes)?,
+        "info" => of_slice::<Info>(options, alloc, row, bytes)?,
+        "packed" => of_slice::<Packed>(options, alloc, row, bytes)?,
         _ => return Ok(None),
     };
     Ok(Some(right))

@@ -6,8 +6,8 @@ use test_checks::{Done, is_refused};
 
 // It gives one byte, and then fails.
 #[derive(Drop)]
-struct Failing {
-    given: bool,
+pub struct Failing {
+    pub given: bool,
 }
 
 impl io::Read for Failing {

@@ -1,6 +1,9 @@
-//! Tests over `cbor_serde`: each call once, what a type may not send, and devices that fail.
+//! Tests over `cbor_serde`: each call once, what a type may not send, options, values, devices that
+//! fail, and streams of items.
 #![tactic(auto)]
 
+#[cfg(test)]
+mod arrays;
 #[cfg(test)]
 mod calls;
 #[cfg(test)]
@@ -8,6 +11,10 @@ mod devices;
 #[cfg(test)]
 mod floats;
 #[cfg(test)]
+mod items;
+#[cfg(test)]
 mod long;
 #[cfg(test)]
 mod sent;
+#[cfg(test)]
+mod streams;

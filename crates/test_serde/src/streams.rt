@@ -1,0 +1,91 @@
+// Items that follow one another, and readers that never end.
+
+use crate::devices::Failing;
+use cbor_serde::{Error, Options, Stream, from_reader};
+use std::io;
+use test_checks::{Done, is_refused};
+
+// Whether the type refuses the item; its message takes memory.
+fn does_not_fit(error: &Error) -> bool {
+    error.is_data() || error.is_memory()
+}
+
+// RFC 7049, Appendix A: [1, 2, 3], [] and "IETF".
+#[test]
+fn gives_items_one_by_one(rt: HostRuntime) -> Done {
+    let mut items = Stream::<_, Vec<u8>>::new(rt.alloc(), b"\x83\x01\x02\x03\x80".as_slice());
+    assert_eq!(rt;
+        items.next().ok_or("none")??.as_slice(),
+        [1, 2, 3].as_slice()
+    );
+    assert!(rt; items.next().ok_or("none")??.is_empty());
+    assert!(rt; items.next().is_none());
+    assert!(rt; items.next().is_none());
+    Ok(())
+}
+
+#[test]
+fn ends_at_a_fault(rt: HostRuntime) -> Done {
+    let mut cut = Stream::<_, String>::new(rt.alloc(), b"\x64IETF\x64IE".as_slice());
+    assert_eq!(rt; cut.next().ok_or("none")??.as_str(), "IETF");
+    is_refused(
+        cut.next().ok_or("none")?,
+        "EOF while parsing a value at offset 3",
+    )?;
+    assert!(rt; cut.next().is_none());
+    let mut other = Stream::<_, u8>::new(rt.alloc(), b"\x64IETF\x01".as_slice());
+    assert!(rt; matches!(other.next(), Some(Err(error)) if does_not_fit(&error)));
+    assert!(rt; other.next().is_none());
+    let flat = Options::new().nesting_limit(0);
+    let mut deep = Stream::<_, Vec<u8>>::with_options(flat, rt.alloc(), b"\x80".as_slice());
+    is_refused(
+        deep.next().ok_or("none")?,
+        "recursion limit exceeded at offset 1",
+    )
+}
+
+#[test]
+fn reports_a_fault_of_the_reader(rt: HostRuntime) -> Done {
+    let mut items = Stream::<_, u8>::new(rt.alloc(), Failing { given: false });
+    is_refused(items.next().ok_or("none")?, "I/O error")?;
+    assert!(rt; items.next().is_none());
+    Ok(())
+}
+
+// It gives one byte without end.
+#[derive(Drop)]
+struct Endless(u8);
+
+impl io::Read for Endless {
+    fn read(&mut self, buf: &mut [u8]) -> io::Result<usize> {
+        for byte in buf.iter_mut() {
+            *byte = self.0;
+        }
+        Ok(buf.len())
+    }
+}
+
+#[test]
+fn takes_no_more_than_the_item(rt: HostRuntime) -> Done {
+    let alloc = rt.alloc();
+    is_refused(
+        from_reader::<Endless, u8>(alloc, Endless(1)),
+        "trailing data at offset 2",
+    )?;
+    is_refused(
+        from_reader::<Endless, u8>(alloc, Endless(0x81)),
+        "recursion limit exceeded at offset 128",
+    )?;
+    let mut ones = Stream::<_, u8>::new(alloc, Endless(1));
+    assert_eq!(rt; ones.next().ok_or("none")??, 1);
+    assert_eq!(rt; ones.next().ok_or("none")??, 1);
+    // What a type refuses stands before the fault in it.
+    let text: &[u8] = b"\x82\x61a\x62\xc3\x28";
+    assert!(rt;
+        matches!(from_reader::<_, (u8, u8)>(alloc, text), Err(error) if does_not_fit(&error))
+    );
+    is_refused(
+        from_reader::<_, (String, String)>(alloc, text),
+        "invalid UTF-8 at offset 4",
+    )
+}
