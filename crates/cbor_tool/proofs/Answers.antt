@@ -27,9 +27,10 @@ use Rattle.serde_cbor.specs.StrictAnswers.{strict_code}
 use Rattle.serde_cbor.specs.Written.{IsRefusedBy, IsNotWritten}
 use Rattle.cbor_tool.specs.Run.{AppendsAnswers}
 use Rattle.cbor_tool.specs.declared.program.Mode.{Mode}
+use Rattle.cbor_tool.specs.declared.program.Preset.{Preset}
 use Rattle.cbor_tool.specs.declared.program.Mode.TheVariants.{Lenient, Strict, Diagnose}
-use Rattle.cbor_tool.specs.declared.program.Mode.TheVariants.{DiagnosePretty}
-use Rattle.cbor_tool.specs.RunSteps.{answered_in, IsRefusalIn, SpellsIn, ReportsIn}
+use Rattle.cbor_tool.specs.declared.program.Mode.TheVariants.{DiagnosePretty, ByRules}
+use Rattle.cbor_tool.specs.RunSteps.{answered_in, shown_in, IsRefusalIn, SpellsIn, ReportsIn}
 use Rattle.cbor_tool.proofs.Hexadecimal.{IsHexOf-decoded, decode_of-hex}
 
 -- ---- one answer
@@ -54,7 +55,7 @@ strict_words_of (ordinary why) = words_of why
 strict_words_of not_canonical = refl
 
 -- the text of an error that reports the first refusal
-ordinary_text : (bytes : List ℕ) (e : Error) → ReportsFirst (limits_of None) bytes e
+pub ordinary_text : (bytes : List ℕ) (e : Error) → ReportsFirst (limits_of None) bytes e
     → IsRefusalText bytes (error_text e)
 ordinary_text bytes e reports =
     let place : offset_of e ≡ reports.offset = omega (arith, reports.at) in
@@ -79,16 +80,25 @@ refusal_text Strict bytes e reports = record {
 }
 refusal_text Diagnose bytes e reports = ordinary_text bytes e reports
 refusal_text DiagnosePretty bytes e reports = ordinary_text bytes e reports
+refusal_text (ByRules preset) bytes e reports = ordinary_text bytes e reports
 
 -- what wasn't read is answered with the refusal
 pub answered_refused : (mode : Mode) (bytes text : List ℕ) (e : Error)
     → IsOutOfMemory e ⊎ ReportsIn mode bytes e
     → ((v : Val) → SpellsIn mode bytes v → IsOutOfMemory e)
     → (code_of e ≡ OutOfMemory → ⊥) → text ≡ codes "error: " ++ error_text e
-    → answered_in mode bytes text
+    → shown_in mode bytes text
 answered_refused mode bytes text e (inl memory) accepted ne is = absurd (ne memory.0)
 answered_refused mode bytes text e (inr reports) accepted ne is =
     refused (error_text e) (λ v spelt. ne (accepted v spelt).0) (refusal_text mode bytes e reports) is
+
+-- what is shown is the answer, but by rules
+pub answered_shown : (mode : Mode) → ((preset : Preset) → mode ≡ ByRules preset → ⊥) → (bytes text : List ℕ) → shown_in mode bytes text → answered_in mode bytes text
+answered_shown Lenient other bytes text h = h
+answered_shown Strict other bytes text h = h
+answered_shown Diagnose other bytes text h = h
+answered_shown DiagnosePretty other bytes text h = h
+answered_shown (ByRules preset) other bytes text h = absurd (other preset refl)
 
 -- lack of memory is reported at no offset
 no_refusal : (why : Refusal) → refusal_code why ≡ OutOfMemory → ⊥
@@ -114,6 +124,7 @@ reported Lenient bytes e reports is = no_refusal reports.why (sym reports.code �
 reported Strict bytes e reports is = no_strict_refusal reports.why (sym reports.code ∙ is)
 reported Diagnose bytes e reports is = no_refusal reports.why (sym reports.code ∙ is)
 reported DiagnosePretty bytes e reports is = no_refusal reports.why (sym reports.code ∙ is)
+reported (ByRules preset) bytes e reports is = no_refusal reports.why (sym reports.code ∙ is)
 
 pub memory_reported : (mode : Mode) (bytes : List ℕ) (e : Error) → IsOutOfMemory e ⊎ ReportsIn mode bytes e
     → code_of e ≡ OutOfMemory → IsOutOfMemory e
@@ -140,6 +151,7 @@ storable_in Lenient bytes v spells = storable bytes v spells
 storable_in Strict bytes v spells = spells.stored
 storable_in Diagnose bytes v spells = storable bytes v spells
 storable_in DiagnosePretty bytes v spells = storable bytes v spells
+storable_in (ByRules preset) bytes v spells = storable bytes v spells
 
 code_of_refusal : (code : ErrorCode) (storable : Type 0) → storable → IsRefusedBy code storable → code ≡ OutOfMemory
 code_of_refusal OutOfMemory storable fits h = refl

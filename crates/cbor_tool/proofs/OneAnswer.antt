@@ -1,5 +1,5 @@
 -- Hexadecimal has one reading, and a line one answer.
-use Rattle.std.proofs.Common.{◌≡◌, ℕ, suc, ◌-◌, ◌/◌, ◌%◌, ◌<◌, List, [], ◌∷◌, ◌++◌, None, refl, sym}
+use Rattle.std.proofs.Common.{◌≡◌, ℕ, suc, ◌-◌, ◌/◌, ◌%◌, ◌<◌, List, [], ◌∷◌, ◌++◌, Option, Some, None, refl, sym}
 use Rattle.std.proofs.Common.{ap, ◌∙◌, subst, arith}
 use Rattle.std.specs.Prelude.{codes}
 use Rattle.std.proofs.lemmas.Bool.Decides.{nat_tests}
@@ -17,6 +17,12 @@ use Rattle.cbor_tool.specs.Answer.{hex_digit, hex, IsHexOf, IsRefusalText, IsStr
 use Rattle.cbor_tool.specs.Answer.{strict_words, Answered, IsAnswered, IsAnsweredStrictly, OneAnswer}
 use Rattle.cbor_tool.specs.Answer.{Answers, IsHexOfCanonical, shown, refused}
 use Rattle.cbor_tool.specs.Answer.{hexadecimal, not_hexadecimal}
+use Rattle.cbor_tool.specs.Answer.{IsAnsweredByRules, kept, departing, unread}
+use Rattle.serde_cbor.specs.Answers.{SpellsDeparting}
+use Rattle.serde_cbor.specs.Rules.{Keeps, only, first_departure, NoneWhereKept}
+use Rattle.serde_cbor.specs.Texts.{departure_text}
+use Rattle.cbor_rules.specs.declared.answers.Departure.{Departure}
+use Rattle.cbor_rules.specs.declared.settings.Rules.{Rules}
 use Rattle.serde_cbor.specs.Strict.{SpellsCanonically}
 use Rattle.serde_cbor.specs.StrictRefusals.{StrictRefusal}
 use Rattle.cbor_model.proofs.facts.Laws.{one_spelling}
@@ -131,3 +137,47 @@ one_answer = one_of IsAnswered answered_unique
 
 pub one_strict_answer : OneAnswer IsAnsweredStrictly
 one_strict_answer = one_of IsAnsweredStrictly answered_strictly_unique
+
+-- ---- by rules
+
+module _ (none : NoneWhereKept) (rules : Rules) where
+  one_departure : (bytes : List ℕ) (d e : Departure) → SpellsDeparting (only rules) bytes d
+      → SpellsDeparting (only rules) bytes e → departure_text d ≡ departure_text e
+  one_departure bytes d e one other =
+      let same = same_item one.spelt.item other.spelt.item one.spelt.acceptable
+      other.spelt.acceptable (one.spelt.spelled ∙ sym other.spelt.spelled) in
+      let is : Some d ≡ Some e =
+      sym one.departs ∙ ap (first_departure (only rules)) same ∙ other.departs in
+      ap text_of is
+    where
+      text_of : Option Departure → List ℕ
+      text_of None = []
+      text_of (Some d) = departure_text d
+
+  keeps_or_departs : (bytes : List ℕ) (v : Val) (spelt : SpellsValue bytes v) (d : Departure)
+      → Keeps (only rules) spelt.item → SpellsDeparting (only rules) bytes d → ⊥
+  keeps_or_departs bytes v spelt d keeps other =
+      let same = same_item spelt.item other.spelt.item spelt.acceptable other.spelt.acceptable
+      (spelt.spelled ∙ sym other.spelt.spelled) in
+      let no = sym ((none (only rules) spelt.item).1 keeps)
+      ∙ ap (first_departure (only rules)) same ∙ other.departs in cc
+
+  by_rules_unique : IsUnique (IsAnsweredByRules rules)
+  by_rules_unique bytes a b (kept v spelt keeps is) (kept w spelt' keeps' is') = is ∙ sym is'
+  by_rules_unique bytes a b (kept v spelt keeps is) (departing d departs is') =
+      absurd (keeps_or_departs bytes v spelt d keeps departs)
+  by_rules_unique bytes a b (kept v spelt keeps is) (unread text none why is') = absurd (none v spelt)
+  by_rules_unique bytes a b (departing d departs is) (kept v spelt keeps is') =
+      absurd (keeps_or_departs bytes v spelt d keeps departs)
+  by_rules_unique bytes a b (departing d departs is) (departing e departs' is') =
+      is ∙ ap (λ (t : List ℕ). codes "error: " ++ t) (one_departure bytes d e departs departs') ∙ sym is'
+  by_rules_unique bytes a b (departing d departs is) (unread text none why is') =
+      absurd (none departs.tree departs.spelt)
+  by_rules_unique bytes a b (unread text none why is) (kept v spelt keeps is') = absurd (none v spelt)
+  by_rules_unique bytes a b (unread text none why is) (departing d departs is') =
+      absurd (none departs.tree departs.spelt)
+  by_rules_unique bytes a b (unread text none why is) (unread text' none' why' is') =
+      is ∙ ap (λ (t : List ℕ). codes "error: " ++ t) (refusal_unique bytes text text' why why') ∙ sym is'
+
+  pub one_answer_by_rules : OneAnswer (IsAnsweredByRules rules)
+  one_answer_by_rules = one_of (IsAnsweredByRules rules) by_rules_unique

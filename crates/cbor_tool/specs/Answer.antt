@@ -11,6 +11,11 @@ use Rattle.cbor_model.specs.Allowed.{limits_of, IsFirstRefusal}
 use Rattle.serde_cbor.specs.Strict.{SpellsCanonically}
 use Rattle.serde_cbor.specs.StrictRefusals.{StrictRefusal, ordinary, not_canonical}
 use Rattle.serde_cbor.specs.StrictRefusals.{IsFirstStrictRefusal}
+use Rattle.serde_cbor.specs.Rules.{Keeps, only}
+use Rattle.serde_cbor.specs.Answers.{SpellsDeparting}
+use Rattle.serde_cbor.specs.Texts.{departure_text}
+use Rattle.cbor_rules.specs.declared.answers.Departure.{Departure}
+use Rattle.cbor_rules.specs.declared.settings.Rules.{Rules}
 
 -- ---- lines
 
@@ -80,6 +85,18 @@ pub record IsStrictRefusalText (bytes text : List ℕ) : Type 0 where
 abbrev pub IsAnsweredStrictly : List ℕ → List ℕ → Type 0
 IsAnsweredStrictly bytes =
     Answers (SpellsCanonically bytes) IsHexOfCanonical (IsStrictRefusalText bytes)
+
+-- ---- what they are answered by rules
+
+-- The bytes themselves, which encode an acceptable item that keeps the rules; or its first departure;
+-- or why they encode none.
+pub data IsAnsweredByRules (rules : Rules) (bytes answer : List ℕ) : Type 0 where
+  kept : (v : Val) (spelt : SpellsValue bytes v) → Keeps (only rules) spelt.item
+      → answer ≡ hex bytes → IsAnsweredByRules rules bytes answer
+  departing : (d : Departure) → SpellsDeparting (only rules) bytes d
+      → answer ≡ codes "error: " ++ departure_text d → IsAnsweredByRules rules bytes answer
+  unread : (text : List ℕ) → ((v : Val) → SpellsValue bytes v → ⊥) → IsRefusalText bytes text
+      → answer ≡ codes "error: " ++ text → IsAnsweredByRules rules bytes answer
 
 -- ---- answers to lines
 

@@ -3,6 +3,7 @@ use Rattle.std.specs.Prelude.{◌≡◌, ◌≢◌, ℕ, ◌+◌, ◌<◌, List,
 use Rattle.std.specs.Prelude.{None, codes}
 use Rattle.std.specs.Io.KnownBytes.{Consumes, Keeps, IsAtEnd}
 use Rattle.cbor_tool.specs.Answer.{Answered, Answers, IsHexOfCanonical, IsRefusalText}
+use Rattle.cbor_tool.specs.Answer.{IsAnsweredByRules}
 use Rattle.cbor_tool.specs.Answer.{IsStrictRefusalText}
 use Rattle.cbor_diagnostic.specs.Notation.{IsNotation, pretty}
 use Rattle.serde_cbor.specs.declared.error.ErrorCode.{ErrorCode}
@@ -17,7 +18,11 @@ use Rattle.serde_cbor.specs.Strict.{SpellsCanonically}
 use Rattle.serde_cbor.specs.StrictAnswers.{ReportsFirstStrictly}
 use Rattle.cbor_tool.specs.declared.program.Mode.{Mode}
 use Rattle.cbor_tool.specs.declared.program.Mode.TheVariants.{Lenient, Strict, Diagnose}
-use Rattle.cbor_tool.specs.declared.program.Mode.TheVariants.{DiagnosePretty}
+use Rattle.cbor_tool.specs.declared.program.Mode.TheVariants.{DiagnosePretty, ByRules}
+use Rattle.cbor_tool.specs.declared.program.Preset.{Preset}
+use Rattle.cbor_tool.specs.declared.program.Preset.TheVariants.{Deterministic, LengthFirst, Ctap2}
+use Rattle.serde_cbor.specs.Presets as presets
+use Rattle.cbor_rules.specs.declared.settings.Rules.{Rules}
 use Rattle.cbor_tool.specs.declared.program.End.{End}
 use Rattle.cbor_tool.specs.declared.sequence.Form.{Form}
 use Rattle.cbor_tool.specs.declared.sequence.Form.TheVariants.{Canonical, Notation}
@@ -88,6 +93,12 @@ StopsAtByte e = StopsAtByteBy (code_of e) (offset_of e)
 
 -- ---- answering
 
+-- the rules of each form
+abbrev pub rules_of : Preset → Rules
+rules_of Deterministic = presets.deterministic
+rules_of LengthFirst = presets.length_first
+rules_of Ctap2 = presets.ctap2
+
 -- the bytes spell the value, as it is read in each mode
 abbrev pub SpellsIn : Mode → List ℕ → Val → Type 0
 SpellsIn Strict = SpellsCanonically
@@ -109,9 +120,14 @@ abbrev pub ReportsIn : Mode → List ℕ → Error → Type 0
 ReportsIn Strict = ReportsFirstStrictly
 ReportsIn _ = ReportsFirst (limits_of None)
 
+-- what is shown in each mode of the value that bytes spell, or why they spell none
+abbrev pub shown_in : Mode → Answered
+shown_in mode bytes = Answers (SpellsIn mode bytes) (ShowsIn mode) (IsRefusalIn mode bytes)
+
 -- what bytes are answered in each mode
 abbrev pub answered_in : Mode → Answered
-answered_in mode bytes = Answers (SpellsIn mode bytes) (ShowsIn mode) (IsRefusalIn mode bytes)
+answered_in (ByRules preset) = IsAnsweredByRules (rules_of preset)
+answered_in mode = shown_in mode
 
 abbrev pub StopsAnsweringBy : Answered → ErrorCode → ℕ → List ℕ → (writer writer' : Option (List ℕ))
     → Type 0
@@ -133,6 +149,9 @@ words_of Lenient = []
 words_of Strict = codes "strict" ∷ []
 words_of Diagnose = codes "diagnose" ∷ []
 words_of DiagnosePretty = codes "diagnose" ∷ codes "--pretty" ∷ []
+words_of (ByRules Deterministic) = codes "deterministic" ∷ []
+words_of (ByRules LengthFirst) = codes "length-first" ∷ []
+words_of (ByRules Ctap2) = codes "ctap2" ∷ []
 
 -- the mode of these words, or none where they are no mode's
 abbrev pub Chooses : List (List ℕ) → Option Mode → Type 0

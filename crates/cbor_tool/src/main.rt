@@ -1,7 +1,7 @@
 //! Reads lines of CBOR in hexadecimal, and answers each with its canonical encoding. With the one
-//! word `strict` after its name it reads canonical encodings alone, and with `diagnose` it answers
-//! in diagnostic notation (RFC 8949, section 8). With a last word `raw` it reads bytes in place of
-//! lines: a sequence of items (RFC 8742).
+//! word `strict` after its name it reads canonical encodings alone, with the name of a form those
+//! that keep its rules, and with `diagnose` it answers in diagnostic notation (RFC 8949, section 8).
+//! With a last word `raw` it reads bytes in place of lines: a sequence of items (RFC 8742).
 //!
 //! It names `serde_cbor`, `cbor_diagnostic`, the definitions of `cbor_model`, and the kit's `hex`.
 #![tactic(auto)]
@@ -13,7 +13,7 @@ mod sequence;
 mod tests;
 mod words;
 
-use crate::program::{Mode, run, run_in, run_strict};
+use crate::program::{Mode, run, run_by_rules, run_in, run_strict};
 use crate::sequence::run_sequence;
 use serde_cbor::Result;
 use std::alloc::AllocError;
@@ -21,12 +21,14 @@ use std::env;
 use std::io::{BufReader, ErrorKind};
 use std::process::ExitCode;
 
+const WORDS: &str = "strict | deterministic | length-first | ctap2 | [diagnose [--pretty]] [raw]";
+
 fn main(rt: HostRuntime) -> ExitCode {
     match answer_input(&rt) {
         Ok(true) => ExitCode::SUCCESS,
         Ok(false) => {
             // Nothing is left to do where standard error fails.
-            let _ = eprintln!(rt; "usage: cbor_tool [strict | [diagnose [--pretty]] [raw]]");
+            let _ = eprintln!(rt; "usage: cbor_tool [{WORDS}]");
             ExitCode::from(2)
         }
         Err(error) => {
@@ -45,6 +47,9 @@ fn answer_input(rt: &HostRuntime) -> Result<bool> {
     match words::mode(&words) {
         Some(Mode::Lenient) => run(rt.alloc(), &mut reader, &mut writer)?,
         Some(Mode::Strict) => run_strict(rt.alloc(), &mut reader, &mut writer)?,
+        Some(Mode::ByRules(preset)) => {
+            run_by_rules(preset, rt.alloc(), &mut reader, &mut writer)?
+        }
         Some(mode) => run_in(mode, rt.alloc(), &mut reader, &mut writer)?,
         None => {
             let Some(form) = words::form(&words) else {

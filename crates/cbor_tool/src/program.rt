@@ -1,23 +1,26 @@
 //! Lines of hexadecimal in, lines of answers out.
 
-ghost use Rattle.std.specs.Prelude.{◌≡◌, ◌⊎◌, ◌+◌, ◌<◌, ◌≤◌, ◌∷◌, [], length};
+ghost use Rattle.std.specs.Prelude.{◌≡◌, ◌≢◌, ◌⊎◌, ◌+◌, ◌<◌, ◌≤◌, ◌∷◌, ◌++◌, [], codes, length};
 ghost use Rattle.std.specs.Prelude.{IfOk, IfErr, IfSome, OnOk};
 ghost use Rattle.std.specs.Io.KnownBytes.{WriteAppends, IsAtEnd};
 ghost use Rattle.cbor_model.specs.Plain.{Val};
 ghost use Rattle.cbor_model.specs.Document.{document_of, IsStorableDocument};
 ghost use Rattle.cbor_tool.specs.Answer.{lines, hex, IsAnswer, IsAnswered, IsAnsweredStrictly};
-ghost use Rattle.serde_cbor.specs.Error.{IsOutOfMemory};
+ghost use Rattle.cbor_tool.specs.Answer.{IsAnsweredByRules};
+ghost use Rattle.serde_cbor.specs.Error.{IsOutOfMemory, code_of, error_text};
+ghost use Rattle.serde_cbor.specs.declared.error.ErrorCode.TheVariants.{OutOfMemory};
 ghost use Rattle.serde_cbor.specs.View.{view};
 ghost use Rattle.serde_cbor.specs.Write.{Wrote};
 ghost use Rattle.serde_cbor.specs.Written.{IsNotWritten};
 ghost use Rattle.cbor_tool.specs.Run.{AppendsAnswers, IsStopped};
 ghost use Rattle.cbor_tool.specs.RunSteps.{IsNext, IsNextLine, StopsReading, StopsAtByte};
 ghost use Rattle.cbor_tool.specs.RunSteps.{answered_in, ShowsIn, SpellsIn, StopsAnswering};
-ghost use Rattle.cbor_tool.specs.RunSteps.{ReportsIn};
+ghost use Rattle.cbor_tool.specs.RunSteps.{ReportsIn, rules_of, shown_in};
 
 use cbor_diagnostic::{to_diagnostic, to_diagnostic_pretty};
 use hex::FromHexError;
 use serde_cbor::error::{Error, ErrorCode};
+use serde_cbor::rules::{Refusal, Rules, from_slice_with};
 use serde_cbor::{Result, Value, from_slice, from_slice_canonical, to_vec};
 use std::alloc::{AllocError, Global};
 use std::io;
@@ -42,6 +45,31 @@ pub enum Mode {
     Diagnose,
     /// The same, with each item of an array and each pair of a map on a line of its own.
     DiagnosePretty,
+    /// Those that keep the rules of a form, which are answered with themselves.
+    ByRules(Preset),
+}
+
+/// A form by whose rules bytes are read.
+#[derive(Clone, Copy)]
+pub enum Preset {
+    /// The core deterministic encoding (RFC 8949, section 4.2.1).
+    Deterministic,
+    /// That with shorter keys first (RFC 8949, section 4.2.3).
+    LengthFirst,
+    /// The canonical form of CTAP2.
+    Ctap2,
+}
+
+impl Preset {
+    fn rules(self) -> Rules
+        ensures { result ≡ rules_of self }
+    {
+        match self {
+            Preset::Deterministic => Rules::DETERMINISTIC,
+            Preset::LengthFirst => Rules::LENGTH_FIRST,
+            Preset::Ctap2 => Rules::CTAP2,
+        }
+    }
 }
 
 /// Answers each line that the reader gives by one line to the writer.
@@ -82,6 +110,26 @@ pub fn run_strict<R: io::Read, W: io::Write>(
         (W.contents writer.old) (W.contents writer.new)) }
 {
     run_in(Mode::Strict, alloc, reader, writer)
+}
+
+/// Answers each line as [`run`] does, but reads by the rules of a form: bytes that keep them are
+/// answered with themselves, an item that departs from a rule with the first departure, and other
+/// bytes with their first refusal.
+pub fn run_by_rules<R: io::Read, W: io::Write>(
+    preset: Preset,
+    alloc: Global,
+    reader: &mut R,
+    writer: &mut W,
+) -> Result<()>
+    ensures answers { OnOk result (IfSome (R.remaining reader.old) (λ input.
+        AppendsAnswers (IsAnsweredByRules (rules_of preset)) (lines input)
+        (W.contents writer.old) (W.contents writer.new))) }
+    ensures end { OnOk result (IsAtEnd (R.remaining reader.new)) }
+    ensures stopped { IfErr result (λ e. IsStopped (IsAnsweredByRules (rules_of preset)) e
+        (R.remaining reader.old) (R.remaining reader.new)
+        (W.contents writer.old) (W.contents writer.new)) }
+{
+    run_in(Mode::ByRules(preset), alloc, reader, writer)
 }
 
 /// Answers each line as [`run`] does, in this mode.
@@ -218,16 +266,50 @@ fn answer_bytes(mode: Mode, alloc: Global, bytes: &[u8], text: &mut Vec<u8>) -> 
     ensures ok { OnOk result (answered_in mode bytes.now text.new.items) }
     ensures err { IfErr result IsOutOfMemory }
 {
-    match read(mode, alloc, bytes) {
-        Ok(value) => show(mode, alloc, &value, text),
-        Err(error) => {
-            if error.is_memory() {
-                return Err(error);
-            }
-            let refusal = format!(in alloc; "error: {error}")?;
+    match mode {
+        Mode::ByRules(preset) => answer_by_rules(preset.rules(), alloc, bytes, text),
+        _ => answer_value(mode, alloc, bytes, text),
+    }
+}
+
+// Makes `text` the bytes, if they keep the rules, or why they don't.
+fn answer_by_rules(rules: Rules, alloc: Global, bytes: &[u8], text: &mut Vec<u8>) -> Result<()>
+    ensures ok { OnOk result (IsAnsweredByRules rules bytes.now text.new.items) }
+    ensures err { IfErr result IsOutOfMemory }
+{
+    match from_slice_with::<Value>(alloc, bytes, rules) {
+        Ok(_) => replace_by_hex(text, bytes),
+        Err(Refusal::Departs(departure)) => {
+            let refusal = format!(in alloc; "error: {departure}")?;
             replace(text, refusal.as_bytes())
         }
+        Err(Refusal::Unread(error)) => answer_error(error, alloc, text),
     }
+}
+
+// Makes `text` what is shown in this mode of the value that the bytes encode, or why they don't.
+fn answer_value(mode: Mode, alloc: Global, bytes: &[u8], text: &mut Vec<u8>) -> Result<()>
+    ensures ok { OnOk result (shown_in mode bytes.now text.new.items) }
+    ensures err { IfErr result IsOutOfMemory }
+{
+    match read(mode, alloc, bytes) {
+        Ok(value) => show(mode, alloc, &value, text),
+        Err(error) => answer_error(error, alloc, text),
+    }
+}
+
+// Makes `text` the answer to bytes that are refused so, unless memory ran out.
+fn answer_error(error: Error, alloc: Global, text: &mut Vec<u8>) -> Result<()>
+    ensures ok { OnOk result ((code_of error ≢ OutOfMemory)
+        × (text.new.items ≡ codes "error: " ++ error_text error)) }
+    ensures err { IfErr result (λ e. IsOutOfMemory e
+        ⊎ ((code_of error ≡ OutOfMemory) × (e ≡ error))) }
+{
+    if error.is_memory() {
+        return Err(error);
+    }
+    let refusal = format!(in alloc; "error: {error}")?;
+    replace(text, refusal.as_bytes())
 }
 
 // Makes `text` what is shown of the value in this mode.
@@ -238,7 +320,7 @@ fn show(mode: Mode, alloc: Global, value: &Value, text: &mut Vec<u8>) -> Result<
     match mode {
         Mode::Diagnose => replace(text, to_diagnostic(alloc, value)?.as_bytes()),
         Mode::DiagnosePretty => replace(text, to_diagnostic_pretty(alloc, value)?.as_bytes()),
-        Mode::Lenient | Mode::Strict => {
+        Mode::Lenient | Mode::Strict | Mode::ByRules(_) => {
             let spelling = to_vec(alloc, value)?;
             replace_by_hex(text, &spelling)
         }

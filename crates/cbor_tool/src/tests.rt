@@ -1,4 +1,4 @@
-use crate::program::{Mode, run, run_in, run_strict};
+use crate::program::{Mode, Preset, run, run_by_rules, run_in, run_strict};
 use crate::sequence::{Form, run_sequence};
 use crate::words;
 use serde_cbor::Result;
@@ -297,6 +297,44 @@ fn answers_each_line_strictly(rt: HostRuntime) -> Result<()> {
     Ok(())
 }
 
+fn answers_by_rules(alloc: Global, preset: Preset, input: &[u8]) -> Result<Vec<u8>> {
+    let mut reader = input;
+    let mut writer = Vec::with_capacity(alloc, 4 * ROOM)?;
+    run_by_rules(preset, alloc, &mut reader, &mut writer)?;
+    Ok(writer)
+}
+
+// The keys 100 and -1 in the order of RFC 8949, section 4.2.1, and in that of section 4.2.3; 1.5; an
+// array as a key; a tag; undefined; what is no item; and what is no hexadecimal.
+const FORMS: &[u8] = b"a218640020F6\na220F6186400\nfb3ff8000000000000\na18000\nc100\nf7\n62\n8\n";
+
+const BY_DETERMINISTIC: &[u8] = b"a218640020f6\nerror: key out of order at offset 5\n\
+    error: float not the shortest at offset 9\na18000\nc100\nf7\n\
+    error: EOF while parsing a value at offset 1\nerror: not hexadecimal\n";
+
+const BY_LENGTH_FIRST: &[u8] = b"error: key out of order at offset 5\na220f6186400\n\
+    error: float not the shortest at offset 9\na18000\nc100\nf7\n\
+    error: EOF while parsing a value at offset 1\nerror: not hexadecimal\n";
+
+const BY_CTAP2: &[u8] = b"a218640020f6\nerror: key out of order at offset 5\n\
+    fb3ff8000000000000\nerror: array, map or tag as a key at offset 2\n\
+    error: tag not allowed at offset 1\nf7\n\
+    error: EOF while parsing a value at offset 1\nerror: not hexadecimal\n";
+
+#[test]
+fn answers_each_line_by_rules(rt: HostRuntime) -> Result<()> {
+    let alloc = rt.alloc();
+    let forms = [
+        (Preset::Deterministic, BY_DETERMINISTIC),
+        (Preset::LengthFirst, BY_LENGTH_FIRST),
+        (Preset::Ctap2, BY_CTAP2),
+    ];
+    for (preset, output) in forms {
+        assert!(rt; answers_by_rules(alloc, preset, FORMS)?.as_slice() == output);
+    }
+    Ok(())
+}
+
 fn diagnoses(alloc: Global, mode: Mode, input: &[u8]) -> Result<Vec<u8>> {
     let mut reader = input;
     let mut writer = Vec::with_capacity(alloc, ROOM)?;
@@ -406,6 +444,10 @@ fn chooses_the_mode_by_words(rt: HostRuntime) -> Result<()> {
     assert!(rt; matches!(words::mode(&words), Some(Mode::Strict)));
     words.push("strict".to_owned(alloc)?)?;
     assert!(rt; words::mode(&words).is_none());
+    words.clear();
+    words.push("length-first".to_owned(alloc)?)?;
+    let by_length = words::mode(&words);
+    assert!(rt; matches!(by_length, Some(Mode::ByRules(Preset::LengthFirst))));
     words.clear();
     words.push("Strict".to_owned(alloc)?)?;
     assert!(rt; words::mode(&words).is_none());

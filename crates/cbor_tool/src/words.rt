@@ -4,11 +4,12 @@ ghost use Rattle.std.specs.Prelude.{map};
 ghost use Rattle.std.specs.String.{string_bytes};
 ghost use Rattle.cbor_tool.specs.RunSteps.{Chooses, ChoosesForm};
 
-use crate::program::Mode;
+use crate::program::{Mode, Preset};
 use crate::sequence::Form;
 
-/// The mode that the words choose: no word is lenient, and `strict`, `diagnose` and `diagnose
-/// --pretty` choose those. Other words choose none.
+/// The mode that the words choose: no word is lenient, `strict`, `diagnose` and `diagnose --pretty`
+/// choose those, and `deterministic`, `length-first` and `ctap2` the rules of these forms. Other
+/// words choose none.
 pub fn mode(words: &[String]) -> Option<Mode>
     ensures { Chooses (map string_bytes words.now) result }
 {
@@ -16,6 +17,9 @@ pub fn mode(words: &[String]) -> Option<Mode>
         [] => Some(Mode::Lenient),
         [word] if word.as_str() == "strict" => Some(Mode::Strict),
         [word] if word.as_str() == "diagnose" => Some(Mode::Diagnose),
+        [word] if word.as_str() == "deterministic" => Some(Mode::ByRules(Preset::Deterministic)),
+        [word] if word.as_str() == "length-first" => Some(Mode::ByRules(Preset::LengthFirst)),
+        [word] if word.as_str() == "ctap2" => Some(Mode::ByRules(Preset::Ctap2)),
         [word, option] if word.as_str() == "diagnose" && option.as_str() == "--pretty" => {
             Some(Mode::DiagnosePretty)
         }

@@ -14,7 +14,7 @@ use Rattle.cbor_model.specs.Allowed.{limits_of}
 use Rattle.serde_cbor.specs.FirstRefusal.{ReportsFirst}
 use Rattle.cbor_tool.specs.declared.program.Mode.{Mode}
 use Rattle.cbor_tool.specs.declared.program.Mode.TheVariants.{Lenient, Strict, Diagnose}
-use Rattle.cbor_tool.specs.declared.program.Mode.TheVariants.{DiagnosePretty}
+use Rattle.cbor_tool.specs.declared.program.Mode.TheVariants.{DiagnosePretty, ByRules}
 use Rattle.cbor_tool.specs.RunSteps.{SpellsIn, ReportsIn}
 use Rattle.cbor_tool.proofs.program.read.Goals as goal
 
@@ -33,18 +33,21 @@ found_in Lenient bs r other h = h
 found_in Strict bs r other h = absurd (other refl)
 found_in Diagnose bs r other h = h
 found_in DiagnosePretty bs r other h = h
+found_in (ByRules preset) bs r other h = h
 
 accepted_in : (mode : Mode) (bs : List ℕ) (r : Result Value Error) → (mode ≡ Strict → ⊥) → ((v : Val) → SpellsValue bs v → IfErr r IsOutOfMemory) → (v : Val) → SpellsIn mode bs v → IfErr r IsOutOfMemory
 accepted_in Lenient bs r other h = h
 accepted_in Strict bs r other h = absurd (other refl)
 accepted_in Diagnose bs r other h = h
 accepted_in DiagnosePretty bs r other h = h
+accepted_in (ByRules preset) bs r other h = h
 
 refused_in : (mode : Mode) (bs : List ℕ) (r : Result Value Error) → (mode ≡ Strict → ⊥) → IfErr r (λ e. IsOutOfMemory e ⊎ ReportsFirst (limits_of None) bs e) → IfErr r (λ e. IsOutOfMemory e ⊎ ReportsIn mode bs e)
 refused_in Lenient bs r other h = h
 refused_in Strict bs r other h = absurd (other refl)
 refused_in Diagnose bs r other h = h
 refused_in DiagnosePretty bs r other h = h
+refused_in (ByRules preset) bs r other h = h
 
 pub returns-in_default-clause-found : goal.returns-in_default-clause-found
 returns-in_default-clause-found c = found_in c.args.mode c.args.bytes.now c.from_slice.result c.in_default.not-Strict (found c.args.bytes.now c.from_slice.result c.from_slice.ensures.found)
