@@ -20,7 +20,7 @@ use Rattle.cbor_tool.specs.Answer.{hexadecimal, not_hexadecimal}
 use Rattle.cbor_tool.specs.Answer.{IsAnsweredByRules, kept, departing, unread}
 use Rattle.serde_cbor.specs.Answers.{SpellsDeparting}
 use Rattle.serde_cbor.specs.Rules.{Keeps, only, first_departure, NoneWhereKept}
-use Rattle.serde_cbor.specs.Texts.{departure_text}
+use Rattle.cbor_rules.specs.Texts.{departure_text}
 use Rattle.cbor_rules.specs.declared.answers.Departure.{Departure}
 use Rattle.cbor_rules.specs.declared.settings.Rules.{Rules}
 use Rattle.serde_cbor.specs.Strict.{SpellsCanonically}

@@ -13,7 +13,7 @@ use Rattle.serde_cbor.specs.StrictRefusals.{StrictRefusal, ordinary, not_canonic
 use Rattle.serde_cbor.specs.StrictRefusals.{IsFirstStrictRefusal}
 use Rattle.serde_cbor.specs.Rules.{Keeps, only}
 use Rattle.serde_cbor.specs.Answers.{SpellsDeparting}
-use Rattle.serde_cbor.specs.Texts.{departure_text}
+use Rattle.cbor_rules.specs.Texts.{departure_text}
 use Rattle.cbor_rules.specs.declared.answers.Departure.{Departure}
 use Rattle.cbor_rules.specs.declared.settings.Rules.{Rules}
 
