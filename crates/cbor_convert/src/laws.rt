@@ -22,8 +22,8 @@ pub fn same_value_same_bytes<A: Serialize, B: Serialize>()
         → (x ≡ y) ↔ (value_of (A.document a) ≡ value_of (B.document b)) }
 {}
 
-/// Two values whose integers are all from -2^64 to 2^64 - 1 compare as their canonical encodings do,
-/// byte by byte: what is sorted by `cmp` is sorted by what [`to_vec`](cbor_ser::to_vec) writes.
+/// Two values whose integers are all from -2^64 to 2^64 - 1 compare as their canonical encodings
+/// do, byte by byte: what is sorted by `cmp` is sorted by what [`to_vec`](cbor_ser::to_vec) writes.
 ///
 /// A caller needs nothing else of the values: that their lengths, counts and tag numbers are below
 /// 2^64, as `byte_order` of `cbor_model` asks, is so of whatever a program holds.

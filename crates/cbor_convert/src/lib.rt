@@ -3,8 +3,8 @@
 //!
 //! [`to_value`] and [`from_value`] go from a type to a `Value` and back, [`to_vec_canonical`]
 //! writes the one encoding that stands for a value of any type, and the builders put a `Value`
-//! together part by part. [`Tagged`] keeps the outermost tag of an item (RFC 7049, section 2.4), and
-//! [`Required`] asks for one; [`Encoded`] is an item that is kept as its bytes.
+//! together part by part. [`Tagged`] keeps the outermost tag of an item (RFC 7049, section 2.4),
+//! and [`Required`] asks for one; [`Encoded`] is an item that is kept as its bytes.
 #![tactic(auto)]
 
 mod canonical;

@@ -42,8 +42,8 @@ pub fn item_refused_first<T: Readable>()
     ensures { ItemRefusedFirst T.total }
 {}
 
-/// An error of a whole input that reports the first refusal that its bytes allow reports the fault that
-/// the reference reader meets, by its code and at its offset.
+/// An error of a whole input that reports the first refusal that its bytes allow reports the fault
+/// that the reference reader meets, by its code and at its offset.
 ///
 /// A caller gives it the clause `first` of a `from_*`.
 pub fn first_is_fault()
@@ -76,9 +76,9 @@ pub fn heads_taken()
 {}
 
 /// What `read_tag` takes, by the definitions alone. Some: the bytes to come were the head of a tag
-/// (major type 6) of that number, and then those that are still to come, and a level was left. None:
-/// no tag's head begins, and nothing was taken. Err: the head that begins is cut off, or no level is
-/// left for the item behind it; or memory ran out, or the source reported a fault.
+/// (major type 6) of that number, and then those that are still to come, and a level was left.
+/// None: no tag's head begins, and nothing was taken. Err: the head that begins is cut off, or no
+/// level is left for the item behind it; or memory ran out, or the source reported a fault.
 ///
 /// A caller gives it the clause `read` of the call.
 pub fn tag_taken()
@@ -86,9 +86,9 @@ pub fn tag_taken()
 {}
 
 /// What `next_element` takes, by the definitions alone. Some: another item came of what remains, a
-/// count or up to the break, and it was taken as `deserialize` takes one ([`item_taken`]). None: the
-/// array ends here, and its break was taken, if it has one. Err: neither is here; or memory ran out,
-/// or the source reported a fault.
+/// count or up to the break, and it was taken as `deserialize` takes one ([`item_taken`]). None:
+/// the array ends here, and its break was taken, if it has one. Err: neither is here; or memory ran
+/// out, or the source reported a fault.
 ///
 /// A caller gives it the clause `read` of the call.
 pub fn element_taken<T: Readable>()
@@ -96,7 +96,8 @@ pub fn element_taken<T: Readable>()
 {}
 
 /// What `next_key` takes, by the definitions alone, as [`element_taken`] says it of an item: a key
-/// that is taken begins as one of a format that is read. `next_value` takes what `deserialize` does.
+/// that is taken begins as one of a format that is read. `next_value` takes what `deserialize`
+/// does.
 ///
 /// A caller gives it the clause `read` of the call.
 pub fn key_taken<K: Readable>()
@@ -104,8 +105,8 @@ pub fn key_taken<K: Readable>()
 {}
 
 /// What the `end` of an array and of a map takes, by the definitions alone. Ok: none remains of a
-/// count, and nothing was taken; or the break of an indefinite length was. Err: no such end is here;
-/// or memory ran out, or the source reported a fault.
+/// count, and nothing was taken; or the break of an indefinite length was. Err: no such end is
+/// here; or memory ran out, or the source reported a fault.
 ///
 /// A caller gives it the clause `read` of the call.
 pub fn end_taken()
@@ -156,9 +157,9 @@ pub fn variant_tuple_taken()
 {}
 
 /// What `part` takes, by the definitions alone. Ok: another item came of what remains, a count or
-/// up to the break, and it was taken as `deserialize` takes one ([`item_taken`]). Err: no item comes
-/// that the type reads, whose chunks fit the buffer; or memory ran out, or the source reported a
-/// fault.
+/// up to the break, and it was taken as `deserialize` takes one ([`item_taken`]). Err: no item
+/// comes that the type reads, whose chunks fit the buffer; or memory ran out, or the source
+/// reported a fault.
 ///
 /// A caller gives it the clause `read` of the call.
 pub fn part_taken<T: Readable>()

@@ -1,5 +1,5 @@
-//! Heads of numbers and bools that are whole at hand: they are known by the bytes themselves, without
-//! a refusal. All others are for [`Decoder::head`].
+//! Heads of numbers and bools that are whole at hand: they are known by the bytes themselves,
+//! without a refusal. All others are for [`Decoder::head`].
 
 ghost use Rattle.std.specs.Prelude.{◌≡◌, ◌≤◌, ◌++◌, List, ℕ, length, take, MatchOption, IfSome};
 ghost use Rattle.std.specs.Prelude.{OnSome, Ok};

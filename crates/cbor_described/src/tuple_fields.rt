@@ -1,10 +1,10 @@
 //! Structs that are read as tuples of their fields.
 //!
-//! Each type of a user's that is described so has to show that its fields are read, which is most of
-//! what a check of it takes. So up to four fields ask for what their types promise (`Deserialize`),
-//! which is the shortest to show. More, in `fields_to_eight` and `fields_to_twelve`, ask for one
-//! promise of each field (`ReadField`) and of the list of those behind the fourth, since the
-//! functions there, proved once, would take minutes else.
+//! Each type of a user's that is described so has to show that its fields are read, which is most
+//! of what a check of it takes. So up to four fields ask for what their types promise
+//! (`Deserialize`), which is the shortest to show. More, in `fields_to_eight` and
+//! `fields_to_twelve`, ask for one promise of each field (`ReadField`) and of the list of those
+//! behind the fourth, since the functions there, proved once, would take minutes else.
 
 use crate::field_list::read_fields;
 use crate::parts::{ReadParts, ReadableParts};

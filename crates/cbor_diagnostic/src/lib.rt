@@ -27,8 +27,8 @@ use std::fmt;
 /// A value, to be shown in diagnostic notation: `{}` writes it on one line, and `{:#}` each item of
 /// an array and each pair of a map on a line of its own, indented by two blanks a level.
 ///
-/// The text is as [`to_diagnostic`] describes it. Showing takes no memory, and is refused only where
-/// the writer refuses it. What `{}` writes is proved; what `{:#}` writes is tested.
+/// The text is as [`to_diagnostic`] describes it. Showing takes no memory, and is refused only
+/// where the writer refuses it. What `{}` writes is proved; what `{:#}` writes is tested.
 ///
 /// ```rust
 /// let value = Value::Tag(1, Box::new(alloc, Value::Integer(-7))?);
@@ -56,8 +56,8 @@ impl fmt::Display for Diagnostic<'_> {
 /// The value in diagnostic notation (RFC 8949, section 8), on one line.
 ///
 /// - Integers are in decimal.
-/// - A float is the shortest decimal numeral that reads back as its number, whatever its width, with
-///   a point: `1.0`, `5.960464477539063e-8`, `1.0e+300`. Else it is `NaN`, `Infinity` or
+/// - A float is the shortest decimal numeral that reads back as its number, whatever its width,
+///   with a point: `1.0`, `5.960464477539063e-8`, `1.0e+300`. Else it is `NaN`, `Infinity` or
 ///   `-Infinity`.
 /// - A byte string is `h'0102'`.
 /// - A text string is in quotes, with the escapes of JSON where a character is a quote, a backslash
@@ -68,8 +68,8 @@ impl fmt::Display for Diagnostic<'_> {
 ///
 /// Widths and indefinite lengths, which a value doesn't keep, aren't shown.
 ///
-/// That a float's numeral reads back, and that it has a point, is proved; that it is the shortest is
-/// tested.
+/// That a float's numeral reads back, and that it has a point, is proved; that it is the shortest
+/// is tested.
 ///
 /// Returns `OutOfMemory` where there is no memory for the text.
 ///

@@ -22,9 +22,9 @@ pub use slice_write::SliceWrite;
 ///
 /// A sink of one's own says in `written` which bytes it was given and in `refuses` which errors it
 /// returns. One that holds a `&mut`, say in a field `to`, names it in `references`, as
-/// `λ s. s.to.ghost_name ∷ []`. One that reports its bytes and refuses a piece only for want of room
-/// says in `capacity` how many it takes in all, as `λ s. Some s.most`. Others leave these out, as
-/// this one does:
+/// `λ s. s.to.ghost_name ∷ []`. One that reports its bytes and refuses a piece only for want of
+/// room says in `capacity` how many it takes in all, as `λ s. Some s.most`. Others leave these out,
+/// as this one does:
 ///
 /// ```rust
 /// struct Counter { count: usize }

@@ -28,11 +28,12 @@ pub fn written_reads_back_as<T: RoundTrip>()
     ensures { IsWrittenReadBack T.document T.reads T.law.fits }
 {}
 
-/// A type reads an input as one value: two values that it is read as, from sources that lend this or
-/// that, are written alike, under each setting of the writer.
+/// A type reads an input as one value: two values that it is read as, from sources that lend this
+/// or that, are written alike, under each setting of the writer.
 ///
-/// A caller gives it the clauses `found` of two of the `from_*`. Of a struct with a field that has a
-/// default it asks that the default is one value (`law.determined`, which else is `tt` for each part).
+/// A caller gives it the clauses `found` of two of the `from_*`. Of a struct with a field that has
+/// a default it asks that the default is one value (`law.determined`, which else is `tt` for each
+/// part).
 pub fn one_value<T: RoundTrip>()
     ensures { ReadsOneValue T.document T.reads T.law.determined }
 {}

@@ -94,8 +94,8 @@ impl<T: RoundTrip + Drop> PartsRoundTrip for Newtype<T> {
 }
 
 /// The law of a struct or an enum by its description, which a type with a
-/// [`Schema`](cbor_parts::Schema) has where its parts are read back, and quotes. The two `refl` show
-/// that its names are as many as its parts, and no two of them the same.
+/// [`Schema`](cbor_parts::Schema) has where its parts are read back, and quotes. The two `refl`
+/// show that its names are as many as its parts, and no two of them the same.
 ///
 /// ```rust
 /// impl RoundTrip for User {

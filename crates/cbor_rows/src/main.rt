@@ -1,5 +1,5 @@
-//! Answers the tables of rows in `data/`, and reports the rows that are answered otherwise than they
-//! say.
+//! Answers the tables of rows in `data/`, and reports the rows that are answered otherwise than
+//! they say.
 #![tactic(auto)]
 
 mod message;

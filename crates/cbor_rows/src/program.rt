@@ -5,7 +5,8 @@ use std::{env, fs, io};
 
 /// Answers the tables that the program's words name, and returns whether all rows are answered as
 /// they say. It reports the rows that are not, and how many there were; `each` before the names has
-/// each step of each row reported. A table that can't be read, or has no rows, counts as a wrong row.
+/// each step of each row reported. A table that can't be read, or has no rows, counts as a wrong
+/// row.
 pub fn run(rt: &HostRuntime) -> io::Result<bool> {
     let mut all = Tally { rows: 0, wrong: 0 };
     let mut tables = 0usize;

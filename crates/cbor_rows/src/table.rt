@@ -11,8 +11,8 @@ pub struct Tally {
     pub wrong: usize,
 }
 
-/// Answers each row of a table, and reports those that are answered otherwise. A line that is no row,
-/// and a table of none, count as wrong rows.
+/// Answers each row of a table, and reports those that are answered otherwise. A line that is no
+/// row, and a table of none, count as wrong rows.
 pub fn answer(rt: &HostRuntime, table: &str, text: &str, reports_each: bool) -> io::Result<Tally> {
     let mut tally = Tally { rows: 0, wrong: 0 };
     for (i, line) in text.lines().enumerate() {

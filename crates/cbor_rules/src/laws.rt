@@ -88,7 +88,8 @@ pub fn type_first_is_bytewise()
     ensures { TypeFirstIsBytewise }
 {}
 
-/// A value as `to_vec_deterministic` and `to_vec_length_first` write it has its floats at their shortest.
+/// A value as `to_vec_deterministic` and `to_vec_length_first` write it has its floats at their
+/// shortest.
 pub fn shortened_has_shortest_floats()
     ensures { ShortenedHasShortestFloats }
 {

@@ -94,8 +94,8 @@ impl Rules {
 
     /// The core deterministic encoding (RFC 8949, section 4.2.1): shortest heads and floats,
     /// definite lengths, and keys ascending by their bytes. A NaN is `f9 7e 00`, as section 4.2.2
-    /// has it for protocols that use one NaN. It is what `to_vec_deterministic` writes; undefined is
-    /// read besides, which no value is written as.
+    /// has it for protocols that use one NaN. It is what `to_vec_deterministic` writes; undefined
+    /// is read besides, which no value is written as.
     pub const DETERMINISTIC: Rules = Rules {
         keys: KeyOrder::Bytewise,
         plain_keys: false,
@@ -121,11 +121,11 @@ impl Rules {
     };
 
     /// The canonical form of CTAP2 (CTAP 2.1, section 8): shortest heads, definite lengths, keys
-    /// ascending by type, length and bytes, floats in the width that they have, and no tags. No key is
-    /// an array or a map, which CTAP2 doesn't use as such; of others its order is that of the bytes,
-    /// so that `to_vec_canonical` writes this form of a value without tags and without such keys
-    /// (law `ctap2_written_is_accepted`); undefined is read besides. That CTAP2 nests four levels at
-    /// the most is none of these rules.
+    /// ascending by type, length and bytes, floats in the width that they have, and no tags. No key
+    /// is an array or a map, which CTAP2 doesn't use as such; of others its order is that of the
+    /// bytes, so that `to_vec_canonical` writes this form of a value without tags and without such
+    /// keys (law `ctap2_written_is_accepted`); undefined is read besides. That CTAP2 nests four
+    /// levels at the most is none of these rules.
     pub const CTAP2: Rules = Rules {
         keys: KeyOrder::TypeFirst,
         plain_keys: true,

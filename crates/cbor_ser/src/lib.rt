@@ -98,10 +98,10 @@ pub fn to_vec_packed<T: Serialize>(alloc: Global, value: &T) -> Result<Vec<u8>>
 ///
 /// It refuses an integer outside `-2^64..=2^64-1`, at any depth, with the message
 /// `The number can't be stored in CBOR`, and whatever the sink refuses. The allocator is for the
-/// text of the first refusal alone. After an Err, a sink that reports its bytes holds what it had and
-/// a prefix of the document's bytes: where a [`SliceWrite`] is too short, the bytes written are
-/// a prefix of what `to_vec` returns, and where a number is refused, nothing of what follows it
-/// was written. A sink that has a capacity, as a [`SliceWrite`] has its length, refuses no document
+/// text of the first refusal alone. After an Err, a sink that reports its bytes holds what it had
+/// and a prefix of the document's bytes: where a [`SliceWrite`] is too short, the bytes written are
+/// a prefix of what `to_vec` returns, and where a number is refused, nothing of what follows it was
+/// written. A sink that has a capacity, as a [`SliceWrite`] has its length, refuses no document
 /// that can be stored and fits what is left of it.
 ///
 /// A `Vec<u8>` grows:

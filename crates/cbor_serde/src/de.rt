@@ -22,9 +22,9 @@ use std::io;
 ///
 /// It refuses bytes that aren't well formed, by the code and at the offset that
 /// [`cbor_de::from_slice`] gives; bytes after the item (`TrailingData`); arrays, maps and tags
-/// nested more than 127 levels deep (`RecursionLimitExceeded`); and what the type doesn't read, by a
-/// `Message` without an offset. It returns `OutOfMemory` where an allocation fails; a length field
-/// alone takes no memory.
+/// nested more than 127 levels deep (`RecursionLimitExceeded`); and what the type doesn't read, by
+/// a `Message` without an offset. It returns `OutOfMemory` where an allocation fails; a length
+/// field alone takes no memory.
 ///
 /// ```rust
 /// let (port, name): (u16, &str) = from_slice(alloc, b"\x82\x18\x50\x64http")?;
@@ -94,12 +94,12 @@ fn is_canonical(alloc: Global, bytes: &[u8]) -> Result<()>
     }
 }
 
-/// What the one item that a reader gives is read as. The bytes of the item are taken to memory while
-/// `T` reads them, and one byte more is asked for, to see that none follows: give it a `take` where
-/// an item may be too long, and a `BufReader` where asking for a few bytes is dear.
+/// What the one item that a reader gives is read as. The bytes of the item are taken to memory
+/// while `T` reads them, and one byte more is asked for, to see that none follows: give it a `take`
+/// where an item may be too long, and a `BufReader` where asking for a few bytes is dear.
 ///
-/// It refuses as [`from_slice`] does, and with `Io` where the reader fails. [`Stream`](crate::Stream)
-/// reads items that follow one another.
+/// It refuses as [`from_slice`] does, and with `Io` where the reader fails.
+/// [`Stream`](crate::Stream) reads items that follow one another.
 ///
 /// ```rust
 /// let number: u8 = from_reader(alloc, b"\x18\x2a".as_slice())?;

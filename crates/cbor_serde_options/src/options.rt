@@ -36,9 +36,9 @@ impl Options {
         }
     }
 
-    /// A field or a variant whose name is a decimal integer, as by `#[serde(rename = "-1")]`, is that
-    /// integer, written and read: the field's key, the variant alone, or the key of what the variant
-    /// holds. A text with its digits is another name then.
+    /// A field or a variant whose name is a decimal integer, as by `#[serde(rename = "-1")]`, is
+    /// that integer, written and read: the field's key, the variant alone, or the key of what the
+    /// variant holds. A text with its digits is another name then.
     ///
     /// An integer is then shown as a text to a type that looks which kind of item comes, such as
     /// JSON's `Value`, which reads no integers by this option.

@@ -11,8 +11,8 @@ use std::alloc::Global;
 /// Any item, as a field of a type that derives the kit's `serde`, or as the whole; in CBOR, and in
 /// other formats of the kit.
 ///
-/// Tags are passed over when it is read, and a value with a tag isn't written: the kit's `serde` has
-/// none. A float is read as one of 64 bits, and one of 16 bits is written as one of 32.
+/// Tags are passed over when it is read, and a value with a tag isn't written: the kit's `serde`
+/// has none. A float is read as one of 64 bits, and one of 16 bits is written as one of 32.
 ///
 /// ```rust
 /// #[derive(Drop, Serialize, Deserialize)]

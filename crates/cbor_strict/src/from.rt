@@ -103,7 +103,8 @@ pub fn from_slice_canonical_as<'a, T: Deserialize<'a, SliceRead<'a>>>(
         → IfErr result (λ e. IsOutOfMemory e → T.asks_memory from_slice_asks spelt.item) }
     // Of any type: no departure stands before what is reported.
     ensures earliest { IfErr result (PassesNoDeparture slice.now) }
-    // Another wrong form is reported by a code, and at a place, that the type may report it by and at.
+    // Another wrong form is reported by a code, and at a place, that the type may report it by and
+    // at.
     ensures form { IfErr result (DepartureOrForm T.wrong_forms slice.now) }
 {
     match from_slice::<T>(alloc, slice) {

@@ -8,8 +8,8 @@ use cbor_strict::from_slice_canonical;
 use cbor_value::Value;
 use std::alloc::Global;
 
-/// Whether `to_value` makes of a value what is read of its bytes, `from_value` reads that again, and
-/// `to_vec_canonical` writes the canonical encoding of it.
+/// Whether `to_value` makes of a value what is read of its bytes, `from_value` reads that again,
+/// and `to_vec_canonical` writes the canonical encoding of it.
 pub fn closes<T: Serialize>(alloc: Global, value: &T) -> Result<bool> {
     let read: Value = from_slice(alloc, &to_vec(alloc, value)?)?;
     let made = to_value(alloc, value)?;

@@ -1,7 +1,7 @@
 //! Reads lines of CBOR in hexadecimal, and answers each with its canonical encoding. With the one
 //! word `strict` after its name it reads canonical encodings alone, with the name of a form those
-//! that keep its rules, and with `diagnose` it answers in diagnostic notation (RFC 8949, section 8).
-//! With a last word `raw` it reads bytes in place of lines: a sequence of items (RFC 8742).
+//! that keep its rules, and with `diagnose` it answers in diagnostic notation (RFC 8949, section
+//! 8). With a last word `raw` it reads bytes in place of lines: a sequence of items (RFC 8742).
 //!
 //! It names `serde_cbor`, `cbor_diagnostic`, the definitions of `cbor_model`, and the kit's `hex`.
 #![tactic(auto)]

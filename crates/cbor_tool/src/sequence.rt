@@ -38,8 +38,8 @@ pub fn run_sequence<R: io::Read + Drop, W: io::Write>(
     reader: R,
     writer: &mut W,
 ) -> Result<()>
-    // Of a reader that reports its bytes, fewer than 2^64: they were a sequence of acceptable items,
-    // each of which was answered.
+    // Of a reader that reports its bytes, fewer than 2^64: they were a sequence of acceptable
+    // items, each of which was answered.
     ensures answers { OnOk result ((input : List ℕ) → Gave (R.remaining reader) input
         → AnswersSequence form input (W.contents writer.old) (W.contents writer.new)) }
     // Or why it stopped, and what was written.

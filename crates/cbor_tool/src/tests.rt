@@ -304,8 +304,8 @@ fn answers_by_rules(alloc: Global, preset: Preset, input: &[u8]) -> Result<Vec<u
     Ok(writer)
 }
 
-// The keys 100 and -1 in the order of RFC 8949, section 4.2.1, and in that of section 4.2.3; 1.5; an
-// array as a key; a tag; undefined; what is no item; and what is no hexadecimal.
+// The keys 100 and -1 in the order of RFC 8949, section 4.2.1, and in that of section 4.2.3; 1.5;
+// an array as a key; a tag; undefined; what is no item; and what is no hexadecimal.
 const FORMS: &[u8] = b"a218640020F6\na220F6186400\nfb3ff8000000000000\na18000\nc100\nf7\n62\n8\n";
 
 const BY_DETERMINISTIC: &[u8] = b"a218640020f6\nerror: key out of order at offset 5\n\

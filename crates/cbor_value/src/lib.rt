@@ -98,8 +98,8 @@ pub enum Value {
 ///
 /// Of n pairs, `get` and its kin, `contains_key`, `insert` and `remove` compare a key with at most
 /// as many as n has binary digits; `insert` of a key that is new, and `remove`, then move the pairs
-/// after it. So many pairs are best put in at once: `from_pairs` compares n - 1 times where the keys
-/// ascend already, and else in the order of n log n times. The other calls take the same time
+/// after it. So many pairs are best put in at once: `from_pairs` compares n - 1 times where the
+/// keys ascend already, and else in the order of n log n times. The other calls take the same time
 /// whatever n is.
 ///
 /// ```rust

@@ -11,8 +11,8 @@ pub struct Tally {
     pub wrong: usize,
 }
 
-/// Answers each row of a table, and reports those that are answered otherwise. A line that is no row
-/// counts as a wrong one.
+/// Answers each row of a table, and reports those that are answered otherwise. A line that is no
+/// row counts as a wrong one.
 pub fn answer(rt: &HostRuntime, table: &str, text: &str) -> io::Result<Tally> {
     let mut tally = Tally { rows: 0, wrong: 0 };
     for (i, line) in text.lines().enumerate() {

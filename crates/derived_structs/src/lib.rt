@@ -1,4 +1,5 @@
-//! Structs that derive the kit's `serde`: names, defaults, fields that are left out, flattened ones.
+//! Structs that derive the kit's `serde`: names, defaults, fields that are left out, flattened
+//! ones.
 #![tactic(auto)]
 
 use serde::{Deserialize, Serialize};

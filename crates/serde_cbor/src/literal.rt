@@ -18,9 +18,9 @@ use cbor_value::{Map, Value};
 /// - A key is a literal, as `"a"`, `1` or `-1`, or an expression in parentheses. Of equal keys the
 ///   last pair stays.
 ///
-/// It refuses what `to_value` refuses, and returns `OutOfMemory` where an allocation fails. An array
-/// or a map can have some hundred items, since the macro goes over them one by one; more are put
-/// together by [`SerializeVec`](crate::value::SerializeVec) and
+/// It refuses what `to_value` refuses, and returns `OutOfMemory` where an allocation fails. An
+/// array or a map can have some hundred items, since the macro goes over them one by one; more are
+/// put together by [`SerializeVec`](crate::value::SerializeVec) and
 /// [`SerializeMap`](crate::value::SerializeMap).
 ///
 /// ```rust

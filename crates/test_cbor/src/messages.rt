@@ -1,5 +1,5 @@
-//! A stream that goes on after a message of the wrong type: each item is read as a `Value`, and that
-//! as the message.
+//! A stream that goes on after a message of the wrong type: each item is read as a `Value`, and
+//! that as the message.
 
 use serde_cbor::de::SliceRead;
 use serde_cbor::stream::StreamDeserializer;

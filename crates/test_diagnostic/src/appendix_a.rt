@@ -1,6 +1,7 @@
 //! The examples of RFC 8949, Appendix A, in its order, as it writes them. It differs in this:
 //!
-//! - A `Value` keeps neither indefinite lengths nor undefined, and the keys of its maps are in order.
+//! - A `Value` keeps neither indefinite lengths nor undefined, and the keys of its maps are in
+//!   order.
 //! - It reads the tags of big numbers as tags.
 //! - Characters beyond ASCII stand as they are, where the RFC, which is in ASCII, has escapes.
 //!

@@ -415,8 +415,8 @@ fn takes_memory_for_what_came_alone(rt: HostRuntime) -> Done {
     Ok(())
 }
 
-// A reader that takes memory itself, and makes a fault of a device of its want of it, is told apart from
-// the source that has none.
+// A reader that takes memory itself, and makes a fault of a device of its want of it, is told apart
+// from the source that has none.
 #[test]
 fn reports_its_own_want_of_memory_from_its_readers(rt: HostRuntime) -> Done {
     let alloc = rt.alloc();

@@ -1,5 +1,5 @@
-//! Tests at the limits: what is long, how much room is taken, what a reader is asked for, which fault
-//! of a device is reported, and tuples that are too short.
+//! Tests at the limits: what is long, how much room is taken, what a reader is asked for, which
+//! fault of a device is reported, and tuples that are too short.
 #![tactic(auto)]
 
 #[cfg(test)]

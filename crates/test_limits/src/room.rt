@@ -21,8 +21,8 @@ fn zeros(alloc: Global, count: usize) -> Result<Vec<u8>, Fail> {
     Ok(bytes)
 }
 
-/// A vector of so many that grew by doubling has room for at most twice as many, and for half as many
-/// again where they were just too many.
+/// A vector of so many that grew by doubling has room for at most twice as many, and for half as
+/// many again where they were just too many.
 fn has_doubled(rt: &impl Abort, len: usize, capacity: usize) {
     assert!(rt; len == 65_537);
     assert!(rt; capacity >= 98_304);

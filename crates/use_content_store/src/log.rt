@@ -138,8 +138,8 @@ fn stopped(store: Store, whole: usize, error: Error) -> std::result::Result<Open
     }
 }
 
-// Whether the error reports a record that goes on beyond the end of the bytes. One that says a length
-// beyond 2^64 does so too.
+// Whether the error reports a record that goes on beyond the end of the bytes. One that says a
+// length beyond 2^64 does so too.
 fn is_cut_off(error: &Error) -> bool
     ensures { IsTrue result ↔ SaysCutOff error.now }
 {
