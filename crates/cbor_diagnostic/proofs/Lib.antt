@@ -2,6 +2,5 @@ pub mod Printing
 pub mod Formatters
 pub mod Layouts
 pub mod Characters
-pub mod Sizes
 pub mod Items
 pub mod Numerals

@@ -74,7 +74,7 @@ fn write_array<W: Write>(items: &[Value], indent: Option<usize>, out: &mut W) ->
 
 // Writes values one after the other.
 #[cycle(value)]
-#[tactic(auto, using(crate::proofs::Sizes::size_at))]
+#[tactic(auto, using(cbor_value::proofs::facts::Sizes::size_at))]
 fn write_items<W: Write>(items: &[Value], indent: Option<usize>, out: &mut W) -> fmt::Result
     ensures { OnOk result (Prints W.write_str_gives
         (AreItems indent true (views items.now)) out.old out.new) }
@@ -101,7 +101,7 @@ fn write_map<W: Write>(map: &Map, indent: Option<usize>, out: &mut W) -> fmt::Re
 
 // Writes pairs one after the other.
 #[cycle(value)]
-#[tactic(auto, using(crate::proofs::Sizes::pair_size_at))]
+#[tactic(auto, using(cbor_value::proofs::facts::Sizes::pair_size_at))]
 fn write_pairs<W: Write>(
     pairs: &[(Value, Value)],
     indent: Option<usize>,

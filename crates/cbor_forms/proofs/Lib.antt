@@ -1,4 +1,3 @@
-mod Sizes
 mod Odds
 mod Halves
 mod Narrowest

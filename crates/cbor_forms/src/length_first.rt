@@ -113,7 +113,7 @@ fn append_array(alloc: Global, out: &mut Vec<u8>, items: &[Value]) -> Result<()>
 }
 
 #[cycle(append)]
-#[tactic(auto, using(crate::proofs::Sizes::size_at))]
+#[tactic(auto, using(cbor_value::proofs::facts::Sizes::size_at))]
 fn append_items(alloc: Global, out: &mut Vec<u8>, items: &[Value]) -> Result<()>
     requires { AreStorable (views items.now) }
     ensures written { OnOk result
@@ -151,7 +151,7 @@ fn in_order(pairs: Vec<(Value, Value)>) -> Result<Vec<(Value, Value)>>
 
 // Keys and values, each as the byte string of its encoding.
 #[cycle(append)]
-#[tactic(auto, using(crate::proofs::Sizes::pair_size_at))]
+#[tactic(auto, using(cbor_value::proofs::facts::Sizes::pair_size_at))]
 fn encode_pairs(alloc: Global, pairs: &[(Value, Value)]) -> Result<Vec<(Value, Value)>>
     requires { ArePairsStorable (pair_views pairs.now) }
     ensures encoded { IfOk result (λ v. pair_views v.items ≡ encoded (pair_views pairs.now)) }

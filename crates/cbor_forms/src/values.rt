@@ -57,7 +57,7 @@ fn shorten(alloc: Global, value: &Value) -> Result<Value>
 }
 
 #[cycle(shorten)]
-#[tactic(auto, using(crate::proofs::Sizes::size_at))]
+#[tactic(auto, using(cbor_value::proofs::facts::Sizes::size_at))]
 fn shorten_items(alloc: Global, items: &[Value]) -> Result<Vec<Value>>
     ensures shortened { IfOk result (λ v. views v.items ≡ all_shortened (views items.now)) }
     ensures kept { OnOk result (AllKeepKeys (views items.now)) }
@@ -83,7 +83,7 @@ fn shorten_map(alloc: Global, map: &Map) -> Result<Map>
 }
 
 #[cycle(shorten)]
-#[tactic(auto, using(crate::proofs::Sizes::pair_size_at))]
+#[tactic(auto, using(cbor_value::proofs::facts::Sizes::pair_size_at))]
 fn shorten_pairs(alloc: Global, pairs: &[(Value, Value)]) -> Result<Vec<(Value, Value)>>
     ensures shortened { IfOk result
         (λ v. pair_views v.items ≡ pairs_shortened (pair_views pairs.now)) }

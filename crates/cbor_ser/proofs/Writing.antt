@@ -17,38 +17,6 @@ use Rattle.cbor_value.specs.View.{view, views, pair_views}
 use Rattle.cbor_io.specs.Error.{IsOutOfMemory}
 use Rattle.cbor_ser.specs.Written.{IsRefusedBy, IsNotWritten, IsUnstorable, IsUnstorableCode, SaysUnstorable}
 
--- ---- a measure: what lies inside a value is smaller
-
-abbrev mutual
-  pub size : Val → ℕ
-  size (array vs) = suc (sizes vs)
-  size (map ps) = suc (pair_sizes ps)
-  size (tag n v) = suc (size v)
-  size _ = 0
-
-  pub sizes : Vals → ℕ
-  sizes no_vals = 0
-  sizes (val v vs) = size v + sizes vs
-
-  pub pair_sizes : Pairs → ℕ
-  pair_sizes no_pairs = 0
-  pair_sizes (pair k v ps) = size k + size v + pair_sizes ps
-
-pub size_at : (vs : List Value) (i : ℕ) (v : Value) → i < length vs → v ≡ get_or vs i v → size (view v) ≤ sizes (views vs)
-size_at [] i v lt is = absurd (omega arith)
-size_at (w ∷ ws) zero v lt is = let e : size (view v) ≡ size (view w) = ap (λ (x : Value). size (view x)) is in omega arith
-size_at (w ∷ ws) (suc i) v lt is = let h = size_at ws i v (omega arith) is in omega (arith, h)
-
-pub key_size_at : (ps : List (Value × Value)) (i : ℕ) (p : Value × Value) → i < length ps → p ≡ get_or ps i p → size (view p.0) ≤ pair_sizes (pair_views ps)
-key_size_at [] i p lt is = absurd (omega arith)
-key_size_at (q ∷ qs) zero p lt is = let e : size (view p.0) ≡ size (view q.0) = ap (λ (x : Value × Value). size (view x.0)) is in omega arith
-key_size_at (q ∷ qs) (suc i) p lt is = let h = key_size_at qs i p (omega arith) is in omega (arith, h)
-
-pub value_size_at : (ps : List (Value × Value)) (i : ℕ) (p : Value × Value) → i < length ps → p ≡ get_or ps i p → size (view p.1) ≤ pair_sizes (pair_views ps)
-value_size_at [] i p lt is = absurd (omega arith)
-value_size_at (q ∷ qs) zero p lt is = let e : size (view p.1) ≡ size (view q.1) = ap (λ (x : Value × Value). size (view x.1)) is in omega arith
-value_size_at (q ∷ qs) (suc i) p lt is = let h = value_size_at qs i p (omega arith) is in omega (arith, h)
-
 -- ---- heads with what follows
 
 pub array_spelled : (vs : Vals) (n : ℕ) → n ≡ count vs → short 4 n ++ spell_all (canonical_all vs) ≡ canon (array vs)

@@ -309,7 +309,7 @@ fn put_array<W: Write>(
 
 // Appends values, one after the other.
 #[cycle(value)]
-#[tactic(auto, using(crate::proofs::Writing::size_at, std::proofs::lemmas::List::drop_all))]
+#[tactic(auto, using(cbor_value::proofs::facts::Sizes::size_at, std::proofs::lemmas::List::drop_all))]
 fn put_items<W: Write>(
     alloc: Global,
     writer: &mut W,
@@ -366,7 +366,7 @@ fn put_map<W: Write>(
 
 // Appends keys and values, as they are listed.
 #[cycle(value)]
-#[tactic(auto, using(crate::proofs::Writing::key_size_at, crate::proofs::Writing::value_size_at, std::proofs::lemmas::List::drop_all))]
+#[tactic(auto, using(cbor_value::proofs::facts::Sizes::key_size_at, cbor_value::proofs::facts::Sizes::value_size_at, std::proofs::lemmas::List::drop_all))]
 fn put_pairs<W: Write>(
     alloc: Global,
     writer: &mut W,

@@ -50,7 +50,7 @@ fn send_array<S: Serializer>(items: &[Value], out: &mut S) -> Result<(), S::Erro
 }
 
 #[cycle(send)]
-#[tactic(auto, using(crate::proofs::Sizes::size_at))]
+#[tactic(auto, using(cbor_value::proofs::facts::Sizes::size_at))]
 fn send_items<S: Serializer>(items: &[Value], out: &mut S) -> Result<(), S::Error>
     ensures { OnOk result (SendsAll (views items.now) (S.written out.old) (S.written out.new)) }
 {
@@ -71,7 +71,7 @@ fn send_map<S: Serializer>(map: &Map, out: &mut S) -> Result<(), S::Error>
 }
 
 #[cycle(send)]
-#[tactic(auto, using(crate::proofs::Sizes::pair_size_at))]
+#[tactic(auto, using(cbor_value::proofs::facts::Sizes::pair_size_at))]
 fn send_pairs<S: Serializer>(pairs: &[(Value, Value)], out: &mut S) -> Result<(), S::Error>
     ensures { OnOk result
         (SendsPairs (pair_views pairs.now) (S.written out.old) (S.written out.new)) }

@@ -1,2 +1,3 @@
 -- What the crates above may cite of this crate's proofs, and nothing else.
+pub mod Sizes
 pub mod Views

@@ -2,7 +2,7 @@ use Rattle.std.proofs.Common.{ℕ, ◌+◌, ◌*◌, true, drop}
 use Rattle.cbor_value.specs.View.{view, views, map_view, pair_views}
 use Rattle.cbor_diagnostic.specs.Notation.{AreItems, ArePairs}
 use Rattle.cbor_diagnostic.proofs.Printing.{SoFar}
-use Rattle.cbor_diagnostic.proofs.Sizes.{size, sizes, pair_sizes}
+use Rattle.cbor_value.proofs.facts.Sizes.{size, sizes, pair_sizes}
 use Rattle.cbor_diagnostic.proofs.notation.+value.Given as goal
 
 -- What was written, with a text of the items that are left, is a text of all.

@@ -5,7 +5,7 @@ use Rattle.cbor_model.specs.FiniteMap.{put_all}
 use Rattle.cbor_model.specs.Head.{short}
 use Rattle.cbor_value.specs.View.{view, views, map_view, pair_views}
 use Rattle.cbor_forms.specs.LengthFirst.{length_first, all_length_first, encoded, joined}
-use Rattle.cbor_forms.proofs.Sizes.{size_at, pair_size_at}
+use Rattle.cbor_value.proofs.facts.Sizes.{size_at, pair_size_at}
 use Rattle.cbor_forms.proofs.Encoding.{next_item, no_more_items, all_encoded, storable_at}
 use Rattle.cbor_forms.proofs.Encoding.{pair_storable_at, then_written, array_whole, map_whole}
 use Rattle.cbor_forms.proofs.Encoding.{tag_whole}

@@ -3,7 +3,7 @@ use Rattle.cbor_value.specs.View.{view, views, map_view, pair_views}
 use Rattle.cbor_forms.specs.LengthFirst.{all_length_first}
 use Rattle.cbor_forms.proofs.Shortening.{both_views}
 use Rattle.cbor_forms.proofs.Encoding.{both_encoded}
-use Rattle.cbor_forms.proofs.Sizes.{size, sizes, pair_sizes}
+use Rattle.cbor_value.proofs.facts.Sizes.{size, sizes, pair_sizes}
 use Rattle.cbor_forms.proofs.length_first.+append.Given as goal
 
 -- What was written, with what is left, is all of it.

@@ -2,7 +2,7 @@ use Rattle.std.proofs.Common.{◌≡◌, ◌+◌, ◌*◌, map, take, drop}
 use Rattle.cbor_value.specs.View.{view, views, map_view, pair_views}
 use Rattle.cbor_forms.specs.Shortened.{AllKeepKeys, PairsKeepKeys}
 use Rattle.cbor_forms.proofs.Shortening.{shorter, both_views, both_shorter}
-use Rattle.cbor_forms.proofs.Sizes.{size, sizes, pair_sizes}
+use Rattle.cbor_value.proofs.facts.Sizes.{size, sizes, pair_sizes}
 use Rattle.cbor_forms.proofs.values.+shorten.Given as goal
 
 abbrev pub invariant-shorten_items-loop-item : goal.invariant-shorten_items-loop-item

@@ -9,7 +9,7 @@ use Rattle.cbor_ser.specs.declared.items.WriteRefused.{WriteRefused}
 use Rattle.cbor_model.specs.Document.{documents_of, document_pairs_of}
 use Rattle.cbor_model.specs.Unstored.{StandsBeforeAny, StandsBeforePairs}
 use Rattle.cbor_ser.proofs.Unstored.{Later}
-use Rattle.cbor_ser.proofs.Writing.{size, sizes, pair_sizes}
+use Rattle.cbor_value.proofs.facts.Sizes.{size, sizes, pair_sizes}
 use Rattle.cbor_ser.proofs.items.+value.Given as goal
 
 -- What is written next, with what follows, is all of it.

@@ -1,7 +1,7 @@
 use Rattle.std.proofs.Common.{Some, sym, subst}
 use Rattle.std.proofs.lemmas.Result.{on_ok_weaker}
 use Rattle.serde.specs.Event.{Logs, seq_begins}
-use Rattle.cbor_serde_value.proofs.Sizes.{count_views}
+use Rattle.cbor_value.proofs.facts.Views.{count_views}
 use Rattle.cbor_serde_value.proofs.send.+send.Goals as goal
 
 pub send_array-returns : goal.send_array-returns

@@ -2,7 +2,7 @@ use Rattle.std.proofs.Common.{◌+◌, ◌*◌, drop}
 use Rattle.serde.specs.Event.{Log}
 use Rattle.cbor_value.specs.View.{view, views, map_view, pair_views}
 use Rattle.cbor_serde_value.specs.Sent.{SendsAll, SendsPairs}
-use Rattle.cbor_serde_value.proofs.Sizes.{size, sizes, pair_sizes}
+use Rattle.cbor_value.proofs.facts.Sizes.{size, sizes, pair_sizes}
 use Rattle.cbor_serde_value.proofs.send.+send.Given as goal
 
 -- whatever the rest sends from here, all send from the start

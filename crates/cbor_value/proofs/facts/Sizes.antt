@@ -1,4 +1,4 @@
--- A measure: what lies inside a value is smaller.
+-- Published: a measure, by which what lies inside a value is smaller.
 use Rattle.std.proofs.Common.{◌≡◌, ℕ, zero, suc, ◌+◌, ◌<◌, ◌≤◌, List, [], ◌∷◌, length, get_or, ap}
 use Rattle.std.proofs.Common.{arith}
 use Rattle.cbor_model.specs.Plain.{Val, array, map, tag, Vals, no_vals, val, Pairs, no_pairs, pair}
@@ -37,3 +37,11 @@ pair_size_at (q ∷ qs) zero p lt is =
     omega arith
 pair_size_at (q ∷ qs) (suc i) p lt is =
     let h = pair_size_at qs i p (omega arith) is in omega (arith, h)
+
+pub key_size_at : (ps : List (Value × Value)) (i : ℕ) (p : Value × Value) → i < length ps
+    → p ≡ get_or ps i p → size (view p.0) ≤ pair_sizes (pair_views ps)
+key_size_at ps i p lt is = let h = pair_size_at ps i p lt is in omega (arith, h)
+
+pub value_size_at : (ps : List (Value × Value)) (i : ℕ) (p : Value × Value) → i < length ps
+    → p ≡ get_or ps i p → size (view p.1) ≤ pair_sizes (pair_views ps)
+value_size_at ps i p lt is = let h = pair_size_at ps i p lt is in omega (arith, h)
