@@ -2,7 +2,7 @@
 use Rattle.std.proofs.Common.{◌≡◌, ℕ, ◌+◌, ◌-◌, ◌≤◌, List, ◌++◌, length, drop, take, sym, ap, subst}
 use Rattle.std.proofs.Common.{◌⊎◌, inl, inr, ◌∙◌, append_assoc, take-append-drop, length-take-le}
 use Rattle.std.proofs.Common.{length-drop, arith}
-use Rattle.std.proofs.Math.Seq.{take-add}
+use Rattle.std.proofs.Math.Seq.{take-add, take-append-add, take-append_seam, drop-append_seam}
 use Rattle.std.proofs.lemmas.List.{drop-drop, drop-take, take-take}
 use Rattle.std.proofs.lemmas.List.Sorted.{IsPermutation-append_comm, IsPermutation-append_left}
 use Rattle.std.proofs.lemmas.List.Sorted.{IsPermutation-append_right, IsPermutation-trans}
@@ -47,6 +47,27 @@ rotated bytes after gap is =
     subst (IsPermutation bytes) (sym is)
     (subst (λ l. IsPermutation l (drop gap bytes ++ take gap bytes)) (take-append-drop gap bytes)
     (IsPermutation-append_comm (take gap bytes) (drop gap bytes)))
+
+-- what lies between the two parts that change places stays where it is
+pub between_stays : (bytes after : List ℕ) (gap n : ℕ) → n ≤ gap → length bytes ≡ gap + n
+    → after ≡ drop gap bytes ++ (drop n (take gap bytes) ++ take n bytes)
+    → drop n (take gap after) ≡ drop n (take gap bytes)
+between_stays bytes after gap n within long is =
+    let part = drop gap bytes in
+    let between = drop n (take gap bytes) in
+    let few : length part ≡ n = length-drop gap bytes ∙ (omega (arith, long)) in
+    let rest : length between ≡ gap - n =
+        length-drop n (take gap bytes)
+        ∙ ap (λ (k : ℕ). k - n) (length-take-le gap bytes (omega (arith, long))) in
+    let up : gap ≡ length part + length between = omega (arith, few, rest, within) in
+    let kept : take gap after ≡ part ++ between =
+        ap (take gap) is
+        ∙ ap (λ (k : ℕ). take k (part ++ (between ++ take n bytes))) up
+        ∙ take-append-add part (between ++ take n bytes) (length between)
+        ∙ ap (λ (l : List ℕ). part ++ l) (take-append_seam between (take n bytes)) in
+    ap (drop n) kept
+    ∙ ap (λ (k : ℕ). drop k (part ++ between)) (sym few)
+    ∙ drop-append_seam part between
 
 -- ---- a part of a slice comes down
 

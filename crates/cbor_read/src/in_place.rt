@@ -14,12 +14,15 @@ const LARGE_GAP: usize = 1024;
 // some order.
 //
 // No more than twice as many bytes change their place as come to the front: those that are no more
-// than the bytes before them change places with as many of them, and the others stay.
-#[tactic(auto, using(crate::proofs::InPlace::exchanged, crate::proofs::InPlace::rotated))]
+// than the bytes before them change places with as many of them, and the others stay (`between`).
+#[tactic(auto, using(crate::proofs::InPlace::exchanged, crate::proofs::InPlace::between_stays, crate::proofs::InPlace::rotated))]
 fn bring_to_front(bytes: &mut [u8], gap: usize)
     requires { gap ≤ length bytes.old }
     ensures front { take (length bytes.old - gap) bytes.new ≡ drop gap bytes.old }
     ensures permutation { IsPermutation bytes.old bytes.new }
+    ensures between { length bytes.old - gap ≤ gap
+        → drop (length bytes.old - gap) (take gap bytes.new)
+            ≡ drop (length bytes.old - gap) (take gap bytes.old) }
 {
     let n = bytes.len() - gap;
     if n <= gap {
