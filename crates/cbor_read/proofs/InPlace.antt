@@ -57,14 +57,14 @@ between_stays bytes after gap n within long is =
     let between = drop n (take gap bytes) in
     let few : length part ≡ n = length-drop gap bytes ∙ (omega (arith, long)) in
     let rest : length between ≡ gap - n =
-        length-drop n (take gap bytes)
-        ∙ ap (λ (k : ℕ). k - n) (length-take-le gap bytes (omega (arith, long))) in
+    length-drop n (take gap bytes)
+    ∙ ap (λ (k : ℕ). k - n) (length-take-le gap bytes (omega (arith, long))) in
     let up : gap ≡ length part + length between = omega (arith, few, rest, within) in
     let kept : take gap after ≡ part ++ between =
-        ap (take gap) is
-        ∙ ap (λ (k : ℕ). take k (part ++ (between ++ take n bytes))) up
-        ∙ take-append-add part (between ++ take n bytes) (length between)
-        ∙ ap (λ (l : List ℕ). part ++ l) (take-append_seam between (take n bytes)) in
+    ap (take gap) is
+    ∙ ap (λ (k : ℕ). take k (part ++ (between ++ take n bytes))) up
+    ∙ take-append-add part (between ++ take n bytes) (length between)
+    ∙ ap (λ (l : List ℕ). part ++ l) (take-append_seam between (take n bytes)) in
     ap (drop n) kept
     ∙ ap (λ (k : ℕ). drop k (part ++ between)) (sym few)
     ∙ drop-append_seam part between

@@ -22,7 +22,7 @@ fn bring_to_front(bytes: &mut [u8], gap: usize)
     ensures permutation { IsPermutation bytes.old bytes.new }
     ensures between { length bytes.old - gap ≤ gap
         → drop (length bytes.old - gap) (take gap bytes.new)
-            ≡ drop (length bytes.old - gap) (take gap bytes.old) }
+        ≡ drop (length bytes.old - gap) (take gap bytes.old) }
 {
     let n = bytes.len() - gap;
     if n <= gap {
