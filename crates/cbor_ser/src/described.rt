@@ -114,7 +114,7 @@ impl<W: Write> Serializer<W> {
     ///
     /// ```rust
     /// impl Serialize for User {
-    ///     ghost document = { ⟦<User as WrittenByParts>⟧.document };
+    ///     ghost document = { ⟦<Self as WrittenBy<<Self as Schema>::Parts>>⟧.document };
     ///
     ///     fn serialize<W: Write>(&self, ser: &mut Serializer<W>) -> Result<()> {
     ///         ser.serialize_fields(self, &(&self.user_id, &self.admin))

@@ -59,7 +59,7 @@ impl<'a, T: Serialize> SerializeField for &'a T {
 ///
 /// ```rust
 /// impl Serialize for Settings {
-///     ghost document = { ⟦<Settings as WrittenByParts>⟧.document };
+///     ghost document = { ⟦<Self as WrittenBy<<Self as Schema>::Parts>>⟧.document };
 ///
 ///     fn serialize<W: Write>(&self, ser: &mut Serializer<W>) -> Result<()> {
 ///         ser.serialize_fields(self, &(&self.port, OptionalField(&self.limit)))

@@ -242,6 +242,42 @@ impl<T: Serialize> Serialize for Option<T> {
     }
 }
 
+/// As what it refers to, so that what is kept elsewhere is written without a copy.
+impl<'a, T: Serialize> Serialize for &'a T {
+    ghost document = { λ r. T.document r.now };
+
+    fn serialize<W: Write>(&self, ser: &mut Serializer<W>) -> Result<()> {
+        T::serialize(*self, ser)
+    }
+}
+
+/// As what it holds.
+impl<T: Serialize> Serialize for Box<T> {
+    ghost document = { λ b. T.document b.value };
+
+    fn serialize<W: Write>(&self, ser: &mut Serializer<W>) -> Result<()> {
+        T::serialize(&**self, ser)
+    }
+}
+
+/// The items of a slice, which is written as the array of them: a `&[u8]` by itself is a byte
+/// string.
+///
+/// ```rust
+/// let bytes = to_vec(alloc, &Items(&[1u8, 2]))?;
+/// assert_eq!(rt; bytes.as_slice(), b"\x82\x01\x02".as_slice());
+/// ```
+#[derive(Clone, Copy, Debug)]
+pub struct Items<'a, T>(pub &'a [T]);
+
+impl<'a, T: Serialize> Serialize for Items<'a, T> {
+    ghost document = { λ s. sequence declared (docs T.document s.0.now) };
+
+    fn serialize<W: Write>(&self, ser: &mut Serializer<W>) -> Result<()> {
+        ser.write_sequence(self.0)
+    }
+}
+
 impl<T: Serialize> Serialize for Vec<T> {
     ghost document = { λ v. sequence declared (docs T.document v.items) };
 

@@ -7,8 +7,8 @@ ghost use Rattle.cbor_model.specs.Document.{struct_variant};
 use crate::serialize::Serialize;
 use crate::tuple_documents::{FieldsDocument, TupleDocuments};
 use cbor_parts::{
-    FieldNames, Newtype, OneOf1, OneOf2, OneOf3, OneOf4, OneOf5, OneOf6, OneOf7, OneOf8, Schema,
-    Struct, Tuple,
+    FieldNames, Newtype, OneOf1, OneOf2, OneOf3, OneOf4, OneOf5, OneOf6, OneOf7, OneOf8, Parts,
+    Schema, Struct, Tuple,
 };
 
 /// A variant that has a document.
@@ -53,24 +53,21 @@ pub trait PartsDocument {
 ///
 /// ```rust
 /// impl Serialize for User {
-///     ghost document = { ⟦<User as WrittenByParts>⟧.document };
+///     ghost document = { ⟦<Self as WrittenBy<<Self as Schema>::Parts>>⟧.document };
 ///
 ///     fn serialize<W: Write>(&self, ser: &mut Serializer<W>) -> Result<()> {
 ///         ser.serialize_fields(self, &(&self.user_id, &self.admin))
 ///     }
 /// }
 /// ```
-pub trait WrittenByParts: Sized {
+pub trait WrittenBy<P>: Sized {
     ghost use Rattle.cbor_model.specs.Document.{Doc};
 
     ghost document: { Self → Doc };
 }
 
-impl<T: Schema> WrittenByParts for T
-where
-    T::Parts: PartsDocument,
-{
-    ghost document = { λ x. T.Parts.document T.names (T.parts x) };
+impl<P: PartsDocument + Parts, T: Schema<Parts = P>> WrittenBy<P> for T {
+    ghost document = { λ x. P.document T.names (T.parts x) };
 }
 
 impl<F: FieldsDocument> PartsDocument for F {
