@@ -3,9 +3,9 @@
 ghost use Rattle.std.specs.Prelude.{map};
 ghost use Rattle.cbor_bench.specs.declared.record.TheConstants.{NAMES};
 
-use serde_cbor::de::{Deserialize, Read, Readable, ReadableParts, read_described};
+use serde_cbor::de::{Deserialize, Read, ReadBy, Readable, read_described};
 use serde_cbor::parts::Schema;
-use serde_cbor::ser::{PartsDocument, Serialize, Serializer, Write};
+use serde_cbor::ser::{Serialize, Serializer, Write, WrittenBy};
 use serde_cbor::{Deserializer, Result};
 
 /// A record of six fields.
@@ -46,8 +46,7 @@ impl Schema for Record {
 }
 
 impl Serialize for Record {
-    ghost document = { λ x. ⟦<<Record as Schema>::Parts as PartsDocument>⟧.document
-        ⟦<Record as Schema>⟧.names (⟦<Record as Schema>⟧.parts x) };
+    ghost document = { ⟦<Self as WrittenBy<<Self as Schema>::Parts>>⟧.document };
 
     fn serialize<W: Write>(&self, ser: &mut Serializer<W>) -> Result<()> {
         let fields = (
@@ -63,10 +62,9 @@ impl Serialize for Record {
 }
 
 impl Readable for Record {
-    ghost reads = { λ c r x. ⟦<<Record as Schema>::Parts as ReadableParts>⟧.reads
-        ⟦<Record as Schema>⟧.names c r (⟦<Record as Schema>⟧.parts x) };
+    ghost reads = { ⟦<Self as ReadBy<<Self as Schema>::Parts>>⟧.reads };
 
-    ghost wrong_forms = { ⟦<<Record as Schema>::Parts as ReadableParts>⟧.wrong_forms };
+    ghost wrong_forms = { ⟦<Self as ReadBy<<Self as Schema>::Parts>>⟧.wrong_forms };
 }
 
 impl<'de, R: Read<'de>> Deserialize<'de, R> for Record {

@@ -1,5 +1,6 @@
 //! Types of std that are read, byte strings, and those of the values.
 
+mod boxed;
 mod byte_strings;
 mod character;
 mod floats;

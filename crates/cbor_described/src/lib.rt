@@ -3,7 +3,7 @@
 //!
 //! The fields of a struct are read as a tuple, or its one unnamed part as a `Newtype` of it, and
 //! the variants of an enum as one of `OneOf1` to `OneOf8` ([`Variant`]). [`read_described`] makes
-//! the type of them, and [`ReadByParts`] says as what it is read.
+//! the type of them, and [`ReadBy`] says as what it is read.
 #![tactic(auto)]
 
 mod field_list;
@@ -15,5 +15,5 @@ mod tuple_fields;
 mod variant_list;
 
 pub use cbor_de::{ReadTuple, ReadableTuple};
-pub use parts::{ReadByParts, ReadParts, ReadableParts, read_described};
+pub use parts::{ReadBy, ReadParts, ReadableParts, read_described};
 pub use variant_list::{Never, OneOf, ReadVariant, Variant};

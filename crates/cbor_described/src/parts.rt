@@ -61,12 +61,12 @@ impl<'de, R: Read<'de>, T: Deserialize<'de, R>> ReadParts<'de, R> for Newtype<T>
 ///
 /// ```rust
 /// impl Readable for User {
-///     ghost reads = { ⟦<User as ReadByParts>⟧.reads };
+///     ghost reads = { ⟦<Self as ReadBy<<Self as Schema>::Parts>>⟧.reads };
 ///
-///     ghost wrong_forms = { ⟦<User as ReadByParts>⟧.wrong_forms };
+///     ghost wrong_forms = { ⟦<Self as ReadBy<<Self as Schema>::Parts>>⟧.wrong_forms };
 /// }
 /// ```
-pub trait ReadByParts: Sized {
+pub trait ReadBy<P>: Sized {
     ghost use Rattle.cbor_model.specs.Raw.{Raw};
     ghost use Rattle.cbor_model.specs.Readable.{Context};
     ghost use Rattle.cbor_de.specs.Forms.{WrongForms};
@@ -76,13 +76,10 @@ pub trait ReadByParts: Sized {
     ghost wrong_forms: { WrongForms };
 }
 
-impl<T: Schema> ReadByParts for T
-where
-    T::Parts: ReadableParts,
-{
-    ghost reads = { λ c r x. T.Parts.reads T.names c r (T.parts x) };
+impl<P: ReadableParts, T: Schema<Parts = P>> ReadBy<P> for T {
+    ghost reads = { λ c r x. P.reads T.names c r (T.parts x) };
 
-    ghost wrong_forms = { T.Parts.wrong_forms };
+    ghost wrong_forms = { P.wrong_forms };
 }
 
 /// Reads the item at the front by the description of the type.

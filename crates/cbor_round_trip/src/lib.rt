@@ -23,7 +23,6 @@ pub use fits::{
 };
 pub use laws::{one_value, write_and_read, written_reads_back_as};
 pub use parts::{
-    FieldRoundTrip, FieldsRoundTrip, PartsRoundTrip, RoundTripByParts, TupleRoundTrip,
-    VariantRoundTrip,
+    FieldRoundTrip, FieldsRoundTrip, PartsRoundTrip, RoundTripBy, TupleRoundTrip, VariantRoundTrip,
 };
 pub use round_trip::{RoundTrip, RoundTripKey};

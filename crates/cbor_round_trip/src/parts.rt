@@ -101,24 +101,21 @@ impl<T: RoundTrip + Drop> PartsRoundTrip for Newtype<T> {
 /// impl RoundTrip for User {
 ///     ghost use Rattle.std.specs.Prelude.{refl};
 ///
-///     ghost law = { ⟦<User as RoundTripByParts>⟧.law.by_names refl refl };
+///     ghost law = { ⟦<Self as RoundTripBy<<Self as Schema>::Parts>>⟧.law.by_names refl refl };
 ///
 ///     ghost back = { Self.law.back };
 /// }
 /// ```
-pub trait RoundTripByParts: Sized {
+pub trait RoundTripBy<P>: Sized {
     ghost use Rattle.cbor_round_trip.specs.TypeLaws.{DescribedLaw};
 
     ghost law: { DescribedLaw Self };
 }
 
-impl<T: Schema> RoundTripByParts for T
-where
-    T::Parts: PartsRoundTrip,
-{
+impl<P: PartsRoundTrip, T: Schema<Parts = P>> RoundTripBy<P> for T {
     ghost use Rattle.cbor_round_trip.specs.TypeLaws.{described_law};
 
-    ghost law = { described_law T.names T.parts T.Parts.law };
+    ghost law = { described_law T.names T.parts P.law };
 }
 
 /// The parts of a variant: a tuple of what is read back.

@@ -25,14 +25,14 @@ use cbor_ser::Serialize;
 /// `&str` or another that borrows.
 ///
 /// A struct or an enum by description has the law of its parts
-/// ([`RoundTripByParts`](crate::RoundTripByParts)), where no two of its names are the same, which
+/// ([`RoundTripBy`](crate::RoundTripBy)), where no two of its names are the same, which
 /// the two `refl` show:
 ///
 /// ```rust
 /// impl RoundTrip for User {
 ///     ghost use Rattle.std.specs.Prelude.{refl};
 ///
-///     ghost law = { ⟦<User as RoundTripByParts>⟧.law.by_names refl refl };
+///     ghost law = { ⟦<Self as RoundTripBy<<Self as Schema>::Parts>>⟧.law.by_names refl refl };
 ///
 ///     ghost back = { Self.law.back };
 /// }

@@ -231,6 +231,15 @@ impl<T: RoundTrip> RoundTrip for Option<T> {
     ghost back = { asking_more (λ o fit. fit.1) (option_back T.back) };
 }
 
+impl<T: RoundTrip> RoundTrip for Box<T> {
+    ghost use Rattle.cbor_round_trip.specs.ReadBack.{by_part};
+    ghost use Rattle.cbor_round_trip.specs.TypeLaws.{law_of};
+
+    ghost law = { law_of (by_part (λ b. b.value) T.law.back) };
+
+    ghost back = { by_part (λ b. b.value) T.back };
+}
+
 impl<T: RoundTrip> RoundTrip for Vec<T> {
     ghost use Rattle.cbor_round_trip.specs.Lists.{list_back};
     ghost use Rattle.cbor_round_trip.specs.TypeLaws.{law_of};

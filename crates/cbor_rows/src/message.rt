@@ -1,9 +1,9 @@
 //! An enum of a struct of another, which holds an enum.
 
 use samples::nested::Example;
-use serde_cbor::de::{Deserialize, DeserializeOwned, Read, ReadByParts, Readable, read_described};
+use serde_cbor::de::{Deserialize, DeserializeOwned, Read, ReadBy, Readable, read_described};
 use serde_cbor::parts::{Newtype, OneOf2, Schema};
-use serde_cbor::ser::{Serialize, Serializer, Write, WrittenByParts};
+use serde_cbor::ser::{Serialize, Serializer, Write, WrittenBy};
 use serde_cbor::{Deserializer, Result};
 
 /// What is sent.
@@ -45,7 +45,7 @@ impl Schema for Message {
 }
 
 impl Serialize for Message {
-    ghost document = { ⟦<Message as WrittenByParts>⟧.document };
+    ghost document = { ⟦<Self as WrittenBy<<Self as Schema>::Parts>>⟧.document };
 
     fn serialize<W: Write>(&self, ser: &mut Serializer<W>) -> Result<()> {
         match self {
@@ -56,9 +56,9 @@ impl Serialize for Message {
 }
 
 impl Readable for Message {
-    ghost reads = { ⟦<Message as ReadByParts>⟧.reads };
+    ghost reads = { ⟦<Self as ReadBy<<Self as Schema>::Parts>>⟧.reads };
 
-    ghost wrong_forms = { ⟦<Message as ReadByParts>⟧.wrong_forms };
+    ghost wrong_forms = { ⟦<Self as ReadBy<<Self as Schema>::Parts>>⟧.wrong_forms };
 }
 
 impl<'de, R: Read<'de>> Deserialize<'de, R> for Message {

@@ -2,13 +2,13 @@
 
 use crate::message::Message;
 use cbor_tables::{Desk, Row};
+use own_types::records::{Pair, Settings};
 use row_types::assorted::Assorted;
 use row_types::bookmark::Bookmark;
 use row_types::choice::Choice;
 use row_types::enums::{DataEnum, TwoVariants, Wish};
 use row_types::floats::FloatEnum;
 use row_types::letters::{EnumStruct, Letter, ReprEnumStruct};
-use row_types::optional::{Pair, Settings};
 use row_types::structs::{Brief, NewtypeStruct, OptionalPerson, UnitStruct};
 use row_types::weather::Weather;
 use samples::enums::{Bar, Color};

@@ -1,72 +1,15 @@
-//! Structs.
+//! Structs with other fields: optional, borrowed, generic and unnamed ones.
 
 ghost use Rattle.std.specs.Prelude.{◌≡◌, [], length, map, refl};
 ghost use Rattle.serde_cbor.specs.Schemas.{newtype, optional, or_default};
 ghost use Rattle.own_types.specs.declared.records.TheConstants.{LABEL, PAIR, READING, SETTINGS};
-ghost use Rattle.own_types.specs.declared.records.TheConstants.{USER};
 
 use serde_cbor::bytes::ByteArray;
-use serde_cbor::de::{Deserialize, DeserializeOwned, Read, ReadByParts, Readable, read_described};
+use serde_cbor::de::{Deserialize, DeserializeOwned, Read, ReadBy, Readable, read_described};
 use serde_cbor::parts::{Newtype, Optional, OrDefault, Schema};
-use serde_cbor::round_trip::RoundTripByParts;
-use serde_cbor::ser::{OptionalField, Serialize, Serializer, Write, WrittenByParts};
+use serde_cbor::round_trip::RoundTripBy;
+use serde_cbor::ser::{OptionalField, Serialize, Serializer, Write, WrittenBy};
 use serde_cbor::{Deserializer, Result, RoundTrip};
-
-/// Who may log in.
-#[derive(Debug, Drop)]
-pub struct User {
-    pub user_id: u32,
-    pub admin: bool,
-}
-
-/// The names of a user's fields.
-const USER: &[&str] = &["user_id", "admin"];
-
-impl Schema for User {
-    type Parts = (u32, bool);
-
-    ghost names = { map (λ n. n.now) USER.now };
-
-    ghost parts = { λ u. (u.user_id, u.admin) };
-
-    fn names() -> &'static [&'static str] {
-        USER
-    }
-
-    fn from_parts((user_id, admin): Self::Parts) -> User {
-        User { user_id, admin }
-    }
-}
-
-impl Serialize for User {
-    ghost document = { ⟦<User as WrittenByParts>⟧.document };
-
-    fn serialize<W: Write>(&self, ser: &mut Serializer<W>) -> Result<()> {
-        ser.serialize_fields(self, &(&self.user_id, &self.admin))
-    }
-}
-
-impl Readable for User {
-    ghost reads = { ⟦<User as ReadByParts>⟧.reads };
-
-    ghost wrong_forms = { ⟦<User as ReadByParts>⟧.wrong_forms };
-}
-
-impl<'de, R: Read<'de>> Deserialize<'de, R> for User {
-    fn deserialize(de: &mut Deserializer<R>) -> Result<User> {
-        read_described(de)
-    }
-}
-
-impl DeserializeOwned for User {
-    ghost same = { λ f a b r u h. h };
-}
-
-impl RoundTrip for User {
-    ghost law = { ⟦<User as RoundTripByParts>⟧.law.by_names refl refl };
-
-    ghost back = { Self.law.back };
-}
 
 /// What a sensor reported.
 #[derive(Debug, Drop)]
@@ -95,7 +38,7 @@ impl Schema for Reading {
 }
 
 impl Serialize for Reading {
-    ghost document = { ⟦<Reading as WrittenByParts>⟧.document };
+    ghost document = { ⟦<Self as WrittenBy<<Self as Schema>::Parts>>⟧.document };
 
     fn serialize<W: Write>(&self, ser: &mut Serializer<W>) -> Result<()> {
         ser.serialize_fields(self, &(&self.sensor, &self.degrees))
@@ -103,9 +46,9 @@ impl Serialize for Reading {
 }
 
 impl Readable for Reading {
-    ghost reads = { ⟦<Reading as ReadByParts>⟧.reads };
+    ghost reads = { ⟦<Self as ReadBy<<Self as Schema>::Parts>>⟧.reads };
 
-    ghost wrong_forms = { ⟦<Reading as ReadByParts>⟧.wrong_forms };
+    ghost wrong_forms = { ⟦<Self as ReadBy<<Self as Schema>::Parts>>⟧.wrong_forms };
 }
 
 impl<'de, R: Read<'de>> Deserialize<'de, R> for Reading {
@@ -146,7 +89,7 @@ impl Schema for Settings {
 }
 
 impl Serialize for Settings {
-    ghost document = { ⟦<Settings as WrittenByParts>⟧.document };
+    ghost document = { ⟦<Self as WrittenBy<<Self as Schema>::Parts>>⟧.document };
 
     fn serialize<W: Write>(&self, ser: &mut Serializer<W>) -> Result<()> {
         let fields = (&self.port, OptionalField(&self.limit), &self.verbose);
@@ -155,9 +98,9 @@ impl Serialize for Settings {
 }
 
 impl Readable for Settings {
-    ghost reads = { ⟦<Settings as ReadByParts>⟧.reads };
+    ghost reads = { ⟦<Self as ReadBy<<Self as Schema>::Parts>>⟧.reads };
 
-    ghost wrong_forms = { ⟦<Settings as ReadByParts>⟧.wrong_forms };
+    ghost wrong_forms = { ⟦<Self as ReadBy<<Self as Schema>::Parts>>⟧.wrong_forms };
 }
 
 impl<'de, R: Read<'de>> Deserialize<'de, R> for Settings {
@@ -171,7 +114,7 @@ impl DeserializeOwned for Settings {
 }
 
 impl RoundTrip for Settings {
-    ghost law = { ⟦<Settings as RoundTripByParts>⟧.law.by_names refl refl };
+    ghost law = { ⟦<Self as RoundTripBy<<Self as Schema>::Parts>>⟧.law.by_names refl refl };
 
     ghost back = { Self.law.back };
 }
@@ -206,9 +149,9 @@ impl<'a> Schema for Label<'a> {
 }
 
 impl<'a> Readable for Label<'a> {
-    ghost reads = { ⟦<Label<'a> as ReadByParts>⟧.reads };
+    ghost reads = { ⟦<Self as ReadBy<<Self as Schema>::Parts>>⟧.reads };
 
-    ghost wrong_forms = { ⟦<Label<'a> as ReadByParts>⟧.wrong_forms };
+    ghost wrong_forms = { ⟦<Self as ReadBy<<Self as Schema>::Parts>>⟧.wrong_forms };
 }
 
 impl<'de, R: Read<'de>> Deserialize<'de, R> for Label<'de> {
@@ -244,7 +187,7 @@ impl<T: Drop> Schema for Pair<T> {
 }
 
 impl<T: Serialize + Drop> Serialize for Pair<T> {
-    ghost document = { ⟦<Pair<T> as WrittenByParts>⟧.document };
+    ghost document = { ⟦<Self as WrittenBy<<Self as Schema>::Parts>>⟧.document };
 
     fn serialize<W: Write>(&self, ser: &mut Serializer<W>) -> Result<()> {
         ser.serialize_fields(self, &(&self.first, &self.second))
@@ -252,9 +195,9 @@ impl<T: Serialize + Drop> Serialize for Pair<T> {
 }
 
 impl<T: Readable> Readable for Pair<T> {
-    ghost reads = { ⟦<Pair<T> as ReadByParts>⟧.reads };
+    ghost reads = { ⟦<Self as ReadBy<<Self as Schema>::Parts>>⟧.reads };
 
-    ghost wrong_forms = { ⟦<Pair<T> as ReadByParts>⟧.wrong_forms };
+    ghost wrong_forms = { ⟦<Self as ReadBy<<Self as Schema>::Parts>>⟧.wrong_forms };
 }
 
 impl<'de, R: Read<'de>, T: Deserialize<'de, R>> Deserialize<'de, R> for Pair<T> {
@@ -284,7 +227,7 @@ impl Schema for Metres {
 }
 
 impl Serialize for Metres {
-    ghost document = { ⟦<Metres as WrittenByParts>⟧.document };
+    ghost document = { ⟦<Self as WrittenBy<<Self as Schema>::Parts>>⟧.document };
 
     fn serialize<W: Write>(&self, ser: &mut Serializer<W>) -> Result<()> {
         ser.serialize_newtype_struct("Metres", &self.0)
@@ -292,9 +235,9 @@ impl Serialize for Metres {
 }
 
 impl Readable for Metres {
-    ghost reads = { ⟦<Metres as ReadByParts>⟧.reads };
+    ghost reads = { ⟦<Self as ReadBy<<Self as Schema>::Parts>>⟧.reads };
 
-    ghost wrong_forms = { ⟦<Metres as ReadByParts>⟧.wrong_forms };
+    ghost wrong_forms = { ⟦<Self as ReadBy<<Self as Schema>::Parts>>⟧.wrong_forms };
 }
 
 impl<'de, R: Read<'de>> Deserialize<'de, R> for Metres {
@@ -308,7 +251,7 @@ impl DeserializeOwned for Metres {
 }
 
 impl RoundTrip for Metres {
-    ghost law = { ⟦<Metres as RoundTripByParts>⟧.law.by_names refl refl };
+    ghost law = { ⟦<Self as RoundTripBy<<Self as Schema>::Parts>>⟧.law.by_names refl refl };
 
     ghost back = { Self.law.back };
 }

@@ -4,10 +4,10 @@ ghost use Rattle.std.specs.Prelude.{map, refl};
 ghost use Rattle.serde_cbor.specs.Schemas.{newtype, structure, tuple};
 ghost use Rattle.own_types.specs.declared.shapes.TheConstants.{SHAPE, SQUARE};
 
-use serde_cbor::de::{Deserialize, DeserializeOwned, Read, ReadByParts, Readable, read_described};
+use serde_cbor::de::{Deserialize, DeserializeOwned, Read, ReadBy, Readable, read_described};
 use serde_cbor::parts::{FieldNames, Newtype, OneOf4, Schema, Struct, Tuple};
-use serde_cbor::round_trip::RoundTripByParts;
-use serde_cbor::ser::{NamedFields, Serialize, Serializer, Write, WrittenByParts};
+use serde_cbor::round_trip::RoundTripBy;
+use serde_cbor::ser::{NamedFields, Serialize, Serializer, Write, WrittenBy};
 use serde_cbor::{Deserializer, Result, RoundTrip};
 
 /// What is drawn.
@@ -75,7 +75,7 @@ impl Schema for Shape {
 }
 
 impl Serialize for Shape {
-    ghost document = { ⟦<Shape as WrittenByParts>⟧.document };
+    ghost document = { ⟦<Self as WrittenBy<<Self as Schema>::Parts>>⟧.document };
 
     fn serialize<W: Write>(&self, ser: &mut Serializer<W>) -> Result<()> {
         match self {
@@ -90,9 +90,9 @@ impl Serialize for Shape {
 }
 
 impl Readable for Shape {
-    ghost reads = { ⟦<Shape as ReadByParts>⟧.reads };
+    ghost reads = { ⟦<Self as ReadBy<<Self as Schema>::Parts>>⟧.reads };
 
-    ghost wrong_forms = { ⟦<Shape as ReadByParts>⟧.wrong_forms };
+    ghost wrong_forms = { ⟦<Self as ReadBy<<Self as Schema>::Parts>>⟧.wrong_forms };
 }
 
 impl<'de, R: Read<'de>> Deserialize<'de, R> for Shape {
@@ -106,7 +106,7 @@ impl DeserializeOwned for Shape {
 }
 
 impl RoundTrip for Shape {
-    ghost law = { ⟦<Shape as RoundTripByParts>⟧.law.by_names refl refl };
+    ghost law = { ⟦<Self as RoundTripBy<<Self as Schema>::Parts>>⟧.law.by_names refl refl };
 
     ghost back = { Self.law.back };
 }

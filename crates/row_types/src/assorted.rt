@@ -2,11 +2,9 @@
 
 use crate::structs::UnitStruct;
 use serde_cbor::bytes::ByteBuf;
-use serde_cbor::de::{
-    Deserialize, DeserializeOwned, Read, Readable, ReadableParts, read_described,
-};
+use serde_cbor::de::{Deserialize, DeserializeOwned, Read, ReadBy, Readable, read_described};
 use serde_cbor::parts::Schema;
-use serde_cbor::ser::{PartsDocument, Serialize, Serializer, Write};
+use serde_cbor::ser::{Serialize, Serializer, Write, WrittenBy};
 use serde_cbor::{Deserializer, Result};
 use std::collections::BTreeMap;
 
@@ -66,8 +64,7 @@ impl Schema for Assorted {
 }
 
 impl Serialize for Assorted {
-    ghost document = { λ x. ⟦<<Assorted as Schema>::Parts as PartsDocument>⟧.document
-        ⟦<Assorted as Schema>⟧.names (⟦<Assorted as Schema>⟧.parts x) };
+    ghost document = { ⟦<Self as WrittenBy<<Self as Schema>::Parts>>⟧.document };
 
     fn serialize<W: Write>(&self, ser: &mut Serializer<W>) -> Result<()> {
         let fields = (
@@ -83,10 +80,9 @@ impl Serialize for Assorted {
 }
 
 impl Readable for Assorted {
-    ghost reads = { λ c r x. ⟦<<Assorted as Schema>::Parts as ReadableParts>⟧.reads
-        ⟦<Assorted as Schema>⟧.names c r (⟦<Assorted as Schema>⟧.parts x) };
+    ghost reads = { ⟦<Self as ReadBy<<Self as Schema>::Parts>>⟧.reads };
 
-    ghost wrong_forms = { ⟦<<Assorted as Schema>::Parts as ReadableParts>⟧.wrong_forms };
+    ghost wrong_forms = { ⟦<Self as ReadBy<<Self as Schema>::Parts>>⟧.wrong_forms };
 }
 
 impl<'de, R: Read<'de>> Deserialize<'de, R> for Assorted {

@@ -3,11 +3,9 @@
 ghost use Rattle.std.specs.Prelude.{IsTrue, IsFalse};
 ghost use Rattle.row_types.specs.Uris.{IsKnown};
 
-use serde_cbor::de::{
-    Deserialize, DeserializeOwned, Read, Readable, ReadableParts, read_described,
-};
+use serde_cbor::de::{Deserialize, DeserializeOwned, Read, ReadBy, Readable, read_described};
 use serde_cbor::parts::Schema;
-use serde_cbor::ser::{PartsDocument, Serialize, Serializer, Write};
+use serde_cbor::ser::{Serialize, Serializer, Write, WrittenBy};
 use serde_cbor::tags::Tagged;
 use serde_cbor::{Deserializer, Error, Result};
 
@@ -97,8 +95,7 @@ impl Schema for Bookmark {
 }
 
 impl Serialize for Bookmark {
-    ghost document = { λ x. ⟦<<Bookmark as Schema>::Parts as PartsDocument>⟧.document
-        ⟦<Bookmark as Schema>⟧.names (⟦<Bookmark as Schema>⟧.parts x) };
+    ghost document = { ⟦<Self as WrittenBy<<Self as Schema>::Parts>>⟧.document };
 
     fn serialize<W: Write>(&self, ser: &mut Serializer<W>) -> Result<()> {
         ser.serialize_fields(self, &(&self.title, &self.link, &self.created))
@@ -106,10 +103,9 @@ impl Serialize for Bookmark {
 }
 
 impl Readable for Bookmark {
-    ghost reads = { λ c r x. ⟦<<Bookmark as Schema>::Parts as ReadableParts>⟧.reads
-        ⟦<Bookmark as Schema>⟧.names c r (⟦<Bookmark as Schema>⟧.parts x) };
+    ghost reads = { ⟦<Self as ReadBy<<Self as Schema>::Parts>>⟧.reads };
 
-    ghost wrong_forms = { ⟦<<Bookmark as Schema>::Parts as ReadableParts>⟧.wrong_forms };
+    ghost wrong_forms = { ⟦<Self as ReadBy<<Self as Schema>::Parts>>⟧.wrong_forms };
 }
 
 impl<'de, R: Read<'de>> Deserialize<'de, R> for Bookmark {

@@ -1,10 +1,8 @@
 //! Enums, with variants of each kind.
 
-use serde_cbor::de::{
-    Deserialize, DeserializeOwned, Read, ReadByParts, Readable, ReadableParts, read_described,
-};
+use serde_cbor::de::{Deserialize, DeserializeOwned, Read, ReadBy, Readable, read_described};
 use serde_cbor::parts::{FieldNames, Newtype, OneOf1, OneOf2, OneOf3, Schema, Struct, Tuple};
-use serde_cbor::ser::{NamedFields, PartsDocument, Serialize, Serializer, Write, WrittenByParts};
+use serde_cbor::ser::{NamedFields, Serialize, Serializer, Write, WrittenBy};
 use serde_cbor::{Deserializer, Result};
 
 #[derive(Debug, Drop)]
@@ -73,8 +71,7 @@ impl Schema for DataEnum {
 }
 
 impl Serialize for DataEnum {
-    ghost document = { λ x. ⟦<<DataEnum as Schema>::Parts as PartsDocument>⟧.document
-        ⟦<DataEnum as Schema>⟧.names (⟦<DataEnum as Schema>⟧.parts x) };
+    ghost document = { ⟦<Self as WrittenBy<<Self as Schema>::Parts>>⟧.document };
 
     fn serialize<W: Write>(&self, ser: &mut Serializer<W>) -> Result<()> {
         match self {
@@ -90,10 +87,9 @@ impl Serialize for DataEnum {
 }
 
 impl Readable for DataEnum {
-    ghost reads = { λ c r x. ⟦<<DataEnum as Schema>::Parts as ReadableParts>⟧.reads
-        ⟦<DataEnum as Schema>⟧.names c r (⟦<DataEnum as Schema>⟧.parts x) };
+    ghost reads = { ⟦<Self as ReadBy<<Self as Schema>::Parts>>⟧.reads };
 
-    ghost wrong_forms = { ⟦<<DataEnum as Schema>::Parts as ReadableParts>⟧.wrong_forms };
+    ghost wrong_forms = { ⟦<Self as ReadBy<<Self as Schema>::Parts>>⟧.wrong_forms };
 }
 
 impl<'de, R: Read<'de>> Deserialize<'de, R> for DataEnum {
@@ -144,7 +140,7 @@ impl Schema for TwoVariants {
 }
 
 impl Serialize for TwoVariants {
-    ghost document = { ⟦<TwoVariants as WrittenByParts>⟧.document };
+    ghost document = { ⟦<Self as WrittenBy<<Self as Schema>::Parts>>⟧.document };
 
     fn serialize<W: Write>(&self, ser: &mut Serializer<W>) -> Result<()> {
         match self {
@@ -155,9 +151,9 @@ impl Serialize for TwoVariants {
 }
 
 impl Readable for TwoVariants {
-    ghost reads = { ⟦<TwoVariants as ReadByParts>⟧.reads };
+    ghost reads = { ⟦<Self as ReadBy<<Self as Schema>::Parts>>⟧.reads };
 
-    ghost wrong_forms = { ⟦<TwoVariants as ReadByParts>⟧.wrong_forms };
+    ghost wrong_forms = { ⟦<Self as ReadBy<<Self as Schema>::Parts>>⟧.wrong_forms };
 }
 
 impl<'de, R: Read<'de>> Deserialize<'de, R> for TwoVariants {
@@ -205,7 +201,7 @@ impl Schema for Wish {
 }
 
 impl Serialize for Wish {
-    ghost document = { ⟦<Wish as WrittenByParts>⟧.document };
+    ghost document = { ⟦<Self as WrittenBy<<Self as Schema>::Parts>>⟧.document };
 
     fn serialize<W: Write>(&self, ser: &mut Serializer<W>) -> Result<()> {
         match self {
@@ -215,9 +211,9 @@ impl Serialize for Wish {
 }
 
 impl Readable for Wish {
-    ghost reads = { ⟦<Wish as ReadByParts>⟧.reads };
+    ghost reads = { ⟦<Self as ReadBy<<Self as Schema>::Parts>>⟧.reads };
 
-    ghost wrong_forms = { ⟦<Wish as ReadByParts>⟧.wrong_forms };
+    ghost wrong_forms = { ⟦<Self as ReadBy<<Self as Schema>::Parts>>⟧.wrong_forms };
 }
 
 impl<'de, R: Read<'de>> Deserialize<'de, R> for Wish {

@@ -1,8 +1,8 @@
 //! An enum that holds a float.
 
-use serde_cbor::de::{Deserialize, DeserializeOwned, Read, ReadByParts, Readable, read_described};
+use serde_cbor::de::{Deserialize, DeserializeOwned, Read, ReadBy, Readable, read_described};
 use serde_cbor::parts::{Newtype, OneOf1, Schema};
-use serde_cbor::ser::{Serialize, Serializer, Write, WrittenByParts};
+use serde_cbor::ser::{Serialize, Serializer, Write, WrittenBy};
 use serde_cbor::value::Float;
 use serde_cbor::{Deserializer, Result};
 
@@ -41,7 +41,7 @@ impl Schema for FloatEnum {
 }
 
 impl Serialize for FloatEnum {
-    ghost document = { ⟦<FloatEnum as WrittenByParts>⟧.document };
+    ghost document = { ⟦<Self as WrittenBy<<Self as Schema>::Parts>>⟧.document };
 
     fn serialize<W: Write>(&self, ser: &mut Serializer<W>) -> Result<()> {
         let FloatEnum::Alpha(x) = self;
@@ -50,9 +50,9 @@ impl Serialize for FloatEnum {
 }
 
 impl Readable for FloatEnum {
-    ghost reads = { ⟦<FloatEnum as ReadByParts>⟧.reads };
+    ghost reads = { ⟦<Self as ReadBy<<Self as Schema>::Parts>>⟧.reads };
 
-    ghost wrong_forms = { ⟦<FloatEnum as ReadByParts>⟧.wrong_forms };
+    ghost wrong_forms = { ⟦<Self as ReadBy<<Self as Schema>::Parts>>⟧.wrong_forms };
 }
 
 impl<'de, R: Read<'de>> Deserialize<'de, R> for FloatEnum {

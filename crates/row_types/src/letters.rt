@@ -1,8 +1,8 @@
 //! Enums of units, and structs that hold one.
 
-use serde_cbor::de::{Deserialize, DeserializeOwned, Read, ReadByParts, Readable, read_described};
+use serde_cbor::de::{Deserialize, DeserializeOwned, Read, ReadBy, Readable, read_described};
 use serde_cbor::parts::{OneOf2, Schema};
-use serde_cbor::ser::{Serialize, Serializer, Write, WrittenByParts};
+use serde_cbor::ser::{Serialize, Serializer, Write, WrittenBy};
 use serde_cbor::{Deserializer, Result};
 
 /// A letter.
@@ -43,7 +43,7 @@ impl Schema for Letter {
 }
 
 impl Serialize for Letter {
-    ghost document = { ⟦<Letter as WrittenByParts>⟧.document };
+    ghost document = { ⟦<Self as WrittenBy<<Self as Schema>::Parts>>⟧.document };
 
     fn serialize<W: Write>(&self, ser: &mut Serializer<W>) -> Result<()> {
         match self {
@@ -54,9 +54,9 @@ impl Serialize for Letter {
 }
 
 impl Readable for Letter {
-    ghost reads = { ⟦<Letter as ReadByParts>⟧.reads };
+    ghost reads = { ⟦<Self as ReadBy<<Self as Schema>::Parts>>⟧.reads };
 
-    ghost wrong_forms = { ⟦<Letter as ReadByParts>⟧.wrong_forms };
+    ghost wrong_forms = { ⟦<Self as ReadBy<<Self as Schema>::Parts>>⟧.wrong_forms };
 }
 
 impl<'de, R: Read<'de>> Deserialize<'de, R> for Letter {
@@ -107,7 +107,7 @@ impl Schema for ReprEnum {
 }
 
 impl Serialize for ReprEnum {
-    ghost document = { ⟦<ReprEnum as WrittenByParts>⟧.document };
+    ghost document = { ⟦<Self as WrittenBy<<Self as Schema>::Parts>>⟧.document };
 
     fn serialize<W: Write>(&self, ser: &mut Serializer<W>) -> Result<()> {
         match self {
@@ -118,9 +118,9 @@ impl Serialize for ReprEnum {
 }
 
 impl Readable for ReprEnum {
-    ghost reads = { ⟦<ReprEnum as ReadByParts>⟧.reads };
+    ghost reads = { ⟦<Self as ReadBy<<Self as Schema>::Parts>>⟧.reads };
 
-    ghost wrong_forms = { ⟦<ReprEnum as ReadByParts>⟧.wrong_forms };
+    ghost wrong_forms = { ⟦<Self as ReadBy<<Self as Schema>::Parts>>⟧.wrong_forms };
 }
 
 impl<'de, R: Read<'de>> Deserialize<'de, R> for ReprEnum {
@@ -162,7 +162,7 @@ impl Schema for EnumStruct {
 }
 
 impl Serialize for EnumStruct {
-    ghost document = { ⟦<EnumStruct as WrittenByParts>⟧.document };
+    ghost document = { ⟦<Self as WrittenBy<<Self as Schema>::Parts>>⟧.document };
 
     fn serialize<W: Write>(&self, ser: &mut Serializer<W>) -> Result<()> {
         ser.serialize_fields(self, &(&self.e,))
@@ -170,9 +170,9 @@ impl Serialize for EnumStruct {
 }
 
 impl Readable for EnumStruct {
-    ghost reads = { ⟦<EnumStruct as ReadByParts>⟧.reads };
+    ghost reads = { ⟦<Self as ReadBy<<Self as Schema>::Parts>>⟧.reads };
 
-    ghost wrong_forms = { ⟦<EnumStruct as ReadByParts>⟧.wrong_forms };
+    ghost wrong_forms = { ⟦<Self as ReadBy<<Self as Schema>::Parts>>⟧.wrong_forms };
 }
 
 impl<'de, R: Read<'de>> Deserialize<'de, R> for EnumStruct {
@@ -214,7 +214,7 @@ impl Schema for ReprEnumStruct {
 }
 
 impl Serialize for ReprEnumStruct {
-    ghost document = { ⟦<ReprEnumStruct as WrittenByParts>⟧.document };
+    ghost document = { ⟦<Self as WrittenBy<<Self as Schema>::Parts>>⟧.document };
 
     fn serialize<W: Write>(&self, ser: &mut Serializer<W>) -> Result<()> {
         ser.serialize_fields(self, &(&self.e,))
@@ -222,9 +222,9 @@ impl Serialize for ReprEnumStruct {
 }
 
 impl Readable for ReprEnumStruct {
-    ghost reads = { ⟦<ReprEnumStruct as ReadByParts>⟧.reads };
+    ghost reads = { ⟦<Self as ReadBy<<Self as Schema>::Parts>>⟧.reads };
 
-    ghost wrong_forms = { ⟦<ReprEnumStruct as ReadByParts>⟧.wrong_forms };
+    ghost wrong_forms = { ⟦<Self as ReadBy<<Self as Schema>::Parts>>⟧.wrong_forms };
 }
 
 impl<'de, R: Read<'de>> Deserialize<'de, R> for ReprEnumStruct {

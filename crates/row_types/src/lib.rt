@@ -1,6 +1,6 @@
 //! Further types by description, which rows of tables name: as many fields as are described, fields
-//! of many kinds, fields that may be absent, generic structs, units, and enums of one to three
-//! variants; and a text within a tag, by hand with the proofs that it takes.
+//! of many kinds, generic structs, units, and enums of one to three variants; and a text within a
+//! tag, by hand with the proofs that it takes.
 #![tactic(auto)]
 
 pub mod assorted;
@@ -9,6 +9,5 @@ pub mod choice;
 pub mod enums;
 pub mod floats;
 pub mod letters;
-pub mod optional;
 pub mod structs;
 pub mod weather;

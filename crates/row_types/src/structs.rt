@@ -1,11 +1,9 @@
 //! A struct of a field that may be absent, one of an unnamed part, one of none, and one of names of
 //! one letter.
 
-use serde_cbor::de::{
-    Deserialize, DeserializeOwned, Read, ReadByParts, Readable, ReadableParts, read_described,
-};
+use serde_cbor::de::{Deserialize, DeserializeOwned, Read, ReadBy, Readable, read_described};
 use serde_cbor::parts::{Newtype, Optional, Schema};
-use serde_cbor::ser::{OptionalField, PartsDocument, Serialize, Serializer, Write, WrittenByParts};
+use serde_cbor::ser::{OptionalField, Serialize, Serializer, Write, WrittenBy};
 use serde_cbor::{Deserializer, Result};
 
 /// A struct of which a field is left out where it isn't known.
@@ -44,8 +42,7 @@ impl Schema for OptionalPerson {
 }
 
 impl Serialize for OptionalPerson {
-    ghost document = { λ x. ⟦<<OptionalPerson as Schema>::Parts as PartsDocument>⟧.document
-        ⟦<OptionalPerson as Schema>⟧.names (⟦<OptionalPerson as Schema>⟧.parts x) };
+    ghost document = { ⟦<Self as WrittenBy<<Self as Schema>::Parts>>⟧.document };
 
     fn serialize<W: Write>(&self, ser: &mut Serializer<W>) -> Result<()> {
         let fields = (
@@ -58,10 +55,9 @@ impl Serialize for OptionalPerson {
 }
 
 impl Readable for OptionalPerson {
-    ghost reads = { λ c r x. ⟦<<OptionalPerson as Schema>::Parts as ReadableParts>⟧.reads
-        ⟦<OptionalPerson as Schema>⟧.names c r (⟦<OptionalPerson as Schema>⟧.parts x) };
+    ghost reads = { ⟦<Self as ReadBy<<Self as Schema>::Parts>>⟧.reads };
 
-    ghost wrong_forms = { ⟦<<OptionalPerson as Schema>::Parts as ReadableParts>⟧.wrong_forms };
+    ghost wrong_forms = { ⟦<Self as ReadBy<<Self as Schema>::Parts>>⟧.wrong_forms };
 }
 
 impl<'de, R: Read<'de>> Deserialize<'de, R> for OptionalPerson {
@@ -98,7 +94,7 @@ impl<T: Drop> Schema for NewtypeStruct<T> {
 }
 
 impl<T: Serialize + Drop> Serialize for NewtypeStruct<T> {
-    ghost document = { ⟦<NewtypeStruct<T> as WrittenByParts>⟧.document };
+    ghost document = { ⟦<Self as WrittenBy<<Self as Schema>::Parts>>⟧.document };
 
     fn serialize<W: Write>(&self, ser: &mut Serializer<W>) -> Result<()> {
         ser.serialize_newtype_struct("NewtypeStruct", &self.0)
@@ -106,9 +102,9 @@ impl<T: Serialize + Drop> Serialize for NewtypeStruct<T> {
 }
 
 impl<T: Readable> Readable for NewtypeStruct<T> {
-    ghost reads = { ⟦<NewtypeStruct<T> as ReadByParts>⟧.reads };
+    ghost reads = { ⟦<Self as ReadBy<<Self as Schema>::Parts>>⟧.reads };
 
-    ghost wrong_forms = { ⟦<NewtypeStruct<T> as ReadByParts>⟧.wrong_forms };
+    ghost wrong_forms = { ⟦<Self as ReadBy<<Self as Schema>::Parts>>⟧.wrong_forms };
 }
 
 impl<'de, R: Read<'de>, T: Deserialize<'de, R>> Deserialize<'de, R> for NewtypeStruct<T> {
@@ -145,7 +141,7 @@ impl Schema for UnitStruct {
 }
 
 impl Serialize for UnitStruct {
-    ghost document = { ⟦<UnitStruct as WrittenByParts>⟧.document };
+    ghost document = { ⟦<Self as WrittenBy<<Self as Schema>::Parts>>⟧.document };
 
     fn serialize<W: Write>(&self, ser: &mut Serializer<W>) -> Result<()> {
         ser.serialize_unit_struct("UnitStruct")
@@ -153,9 +149,9 @@ impl Serialize for UnitStruct {
 }
 
 impl Readable for UnitStruct {
-    ghost reads = { ⟦<UnitStruct as ReadByParts>⟧.reads };
+    ghost reads = { ⟦<Self as ReadBy<<Self as Schema>::Parts>>⟧.reads };
 
-    ghost wrong_forms = { ⟦<UnitStruct as ReadByParts>⟧.wrong_forms };
+    ghost wrong_forms = { ⟦<Self as ReadBy<<Self as Schema>::Parts>>⟧.wrong_forms };
 }
 
 impl<'de, R: Read<'de>> Deserialize<'de, R> for UnitStruct {
@@ -198,8 +194,7 @@ impl Schema for Brief {
 }
 
 impl Serialize for Brief {
-    ghost document = { λ x. ⟦<<Brief as Schema>::Parts as PartsDocument>⟧.document
-        ⟦<Brief as Schema>⟧.names (⟦<Brief as Schema>⟧.parts x) };
+    ghost document = { ⟦<Self as WrittenBy<<Self as Schema>::Parts>>⟧.document };
 
     fn serialize<W: Write>(&self, ser: &mut Serializer<W>) -> Result<()> {
         ser.serialize_fields(self, &(&self.a, &self.b))
@@ -207,10 +202,9 @@ impl Serialize for Brief {
 }
 
 impl Readable for Brief {
-    ghost reads = { λ c r x. ⟦<<Brief as Schema>::Parts as ReadableParts>⟧.reads
-        ⟦<Brief as Schema>⟧.names c r (⟦<Brief as Schema>⟧.parts x) };
+    ghost reads = { ⟦<Self as ReadBy<<Self as Schema>::Parts>>⟧.reads };
 
-    ghost wrong_forms = { ⟦<<Brief as Schema>::Parts as ReadableParts>⟧.wrong_forms };
+    ghost wrong_forms = { ⟦<Self as ReadBy<<Self as Schema>::Parts>>⟧.wrong_forms };
 }
 
 impl<'de, R: Read<'de>> Deserialize<'de, R> for Brief {

@@ -1,10 +1,8 @@
 //! A struct of as many fields as are described.
 
-use serde_cbor::de::{
-    Deserialize, DeserializeOwned, Read, Readable, ReadableParts, read_described,
-};
+use serde_cbor::de::{Deserialize, DeserializeOwned, Read, ReadBy, Readable, read_described};
 use serde_cbor::parts::Schema;
-use serde_cbor::ser::{PartsDocument, Serialize, Serializer, Write};
+use serde_cbor::ser::{Serialize, Serializer, Write, WrittenBy};
 use serde_cbor::{Deserializer, Result};
 
 /// What a weather station saw in an hour.
@@ -100,8 +98,7 @@ impl Schema for Weather {
 }
 
 impl Serialize for Weather {
-    ghost document = { λ x. ⟦<<Weather as Schema>::Parts as PartsDocument>⟧.document
-        ⟦<Weather as Schema>⟧.names (⟦<Weather as Schema>⟧.parts x) };
+    ghost document = { ⟦<Self as WrittenBy<<Self as Schema>::Parts>>⟧.document };
 
     fn serialize<W: Write>(&self, ser: &mut Serializer<W>) -> Result<()> {
         let fields = (
@@ -123,10 +120,9 @@ impl Serialize for Weather {
 }
 
 impl Readable for Weather {
-    ghost reads = { λ c r x. ⟦<<Weather as Schema>::Parts as ReadableParts>⟧.reads
-        ⟦<Weather as Schema>⟧.names c r (⟦<Weather as Schema>⟧.parts x) };
+    ghost reads = { ⟦<Self as ReadBy<<Self as Schema>::Parts>>⟧.reads };
 
-    ghost wrong_forms = { ⟦<<Weather as Schema>::Parts as ReadableParts>⟧.wrong_forms };
+    ghost wrong_forms = { ⟦<Self as ReadBy<<Self as Schema>::Parts>>⟧.wrong_forms };
 }
 
 impl<'de, R: Read<'de>> Deserialize<'de, R> for Weather {

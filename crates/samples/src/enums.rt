@@ -1,10 +1,8 @@
 //! Enums, with variants of each kind.
 
-use serde_cbor::de::{
-    Deserialize, DeserializeOwned, Read, ReadByParts, Readable, ReadableParts, read_described,
-};
+use serde_cbor::de::{Deserialize, DeserializeOwned, Read, ReadBy, Readable, read_described};
 use serde_cbor::parts::{FieldNames, Newtype, OneOf4, Schema, Struct, Tuple};
-use serde_cbor::ser::{NamedFields, PartsDocument, Serialize, Serializer, Write, WrittenByParts};
+use serde_cbor::ser::{NamedFields, Serialize, Serializer, Write, WrittenBy};
 use serde_cbor::{Deserializer, Result};
 
 /// An enum with variants of three kinds.
@@ -55,7 +53,7 @@ impl Schema for Color {
 }
 
 impl Serialize for Color {
-    ghost document = { ⟦<Color as WrittenByParts>⟧.document };
+    ghost document = { ⟦<Self as WrittenBy<<Self as Schema>::Parts>>⟧.document };
 
     fn serialize<W: Write>(&self, ser: &mut Serializer<W>) -> Result<()> {
         match self {
@@ -68,9 +66,9 @@ impl Serialize for Color {
 }
 
 impl Readable for Color {
-    ghost reads = { ⟦<Color as ReadByParts>⟧.reads };
+    ghost reads = { ⟦<Self as ReadBy<<Self as Schema>::Parts>>⟧.reads };
 
-    ghost wrong_forms = { ⟦<Color as ReadByParts>⟧.wrong_forms };
+    ghost wrong_forms = { ⟦<Self as ReadBy<<Self as Schema>::Parts>>⟧.wrong_forms };
 }
 
 impl<'de, R: Read<'de>> Deserialize<'de, R> for Color {
@@ -153,8 +151,7 @@ impl Schema for Bar {
 }
 
 impl Serialize for Bar {
-    ghost document = { λ x. ⟦<<Bar as Schema>::Parts as PartsDocument>⟧.document
-        ⟦<Bar as Schema>⟧.names (⟦<Bar as Schema>⟧.parts x) };
+    ghost document = { ⟦<Self as WrittenBy<<Self as Schema>::Parts>>⟧.document };
 
     fn serialize<W: Write>(&self, ser: &mut Serializer<W>) -> Result<()> {
         match self {
@@ -171,10 +168,9 @@ impl Serialize for Bar {
 }
 
 impl Readable for Bar {
-    ghost reads = { λ c r x. ⟦<<Bar as Schema>::Parts as ReadableParts>⟧.reads
-        ⟦<Bar as Schema>⟧.names c r (⟦<Bar as Schema>⟧.parts x) };
+    ghost reads = { ⟦<Self as ReadBy<<Self as Schema>::Parts>>⟧.reads };
 
-    ghost wrong_forms = { ⟦<<Bar as Schema>::Parts as ReadableParts>⟧.wrong_forms };
+    ghost wrong_forms = { ⟦<Self as ReadBy<<Self as Schema>::Parts>>⟧.wrong_forms };
 }
 
 impl<'de, R: Read<'de>> Deserialize<'de, R> for Bar {

@@ -1,9 +1,9 @@
 //! A struct of an enum, and a struct of that.
 
 use crate::enums::Color;
-use serde_cbor::de::{Deserialize, DeserializeOwned, Read, ReadByParts, Readable, read_described};
+use serde_cbor::de::{Deserialize, DeserializeOwned, Read, ReadBy, Readable, read_described};
 use serde_cbor::parts::Schema;
-use serde_cbor::ser::{Serialize, Serializer, Write, WrittenByParts};
+use serde_cbor::ser::{Serialize, Serializer, Write, WrittenBy};
 use serde_cbor::{Deserializer, Result};
 
 /// A struct that holds an enum.
@@ -36,7 +36,7 @@ impl Schema for Foo {
 }
 
 impl Serialize for Foo {
-    ghost document = { ⟦<Foo as WrittenByParts>⟧.document };
+    ghost document = { ⟦<Self as WrittenBy<<Self as Schema>::Parts>>⟧.document };
 
     fn serialize<W: Write>(&self, ser: &mut Serializer<W>) -> Result<()> {
         ser.serialize_fields(self, &(&self.x, &self.color))
@@ -44,9 +44,9 @@ impl Serialize for Foo {
 }
 
 impl Readable for Foo {
-    ghost reads = { ⟦<Foo as ReadByParts>⟧.reads };
+    ghost reads = { ⟦<Self as ReadBy<<Self as Schema>::Parts>>⟧.reads };
 
-    ghost wrong_forms = { ⟦<Foo as ReadByParts>⟧.wrong_forms };
+    ghost wrong_forms = { ⟦<Self as ReadBy<<Self as Schema>::Parts>>⟧.wrong_forms };
 }
 
 impl<'de, R: Read<'de>> Deserialize<'de, R> for Foo {
@@ -89,7 +89,7 @@ impl Schema for Example {
 }
 
 impl Serialize for Example {
-    ghost document = { ⟦<Example as WrittenByParts>⟧.document };
+    ghost document = { ⟦<Self as WrittenBy<<Self as Schema>::Parts>>⟧.document };
 
     fn serialize<W: Write>(&self, ser: &mut Serializer<W>) -> Result<()> {
         ser.serialize_fields(self, &(&self.foo, &self.payload))
@@ -97,9 +97,9 @@ impl Serialize for Example {
 }
 
 impl Readable for Example {
-    ghost reads = { ⟦<Example as ReadByParts>⟧.reads };
+    ghost reads = { ⟦<Self as ReadBy<<Self as Schema>::Parts>>⟧.reads };
 
-    ghost wrong_forms = { ⟦<Example as ReadByParts>⟧.wrong_forms };
+    ghost wrong_forms = { ⟦<Self as ReadBy<<Self as Schema>::Parts>>⟧.wrong_forms };
 }
 
 impl<'de, R: Read<'de>> Deserialize<'de, R> for Example {

@@ -1,10 +1,8 @@
 //! Structs, written as maps of their fields.
 
-use serde_cbor::de::{
-    Deserialize, DeserializeOwned, Read, ReadByParts, Readable, ReadableParts, read_described,
-};
+use serde_cbor::de::{Deserialize, DeserializeOwned, Read, ReadBy, Readable, read_described};
 use serde_cbor::parts::Schema;
-use serde_cbor::ser::{PartsDocument, Serialize, Serializer, Write, WrittenByParts};
+use serde_cbor::ser::{Serialize, Serializer, Write, WrittenBy};
 use serde_cbor::{Deserializer, Result};
 
 /// A struct of two fields.
@@ -40,7 +38,7 @@ impl Schema for User {
 }
 
 impl Serialize for User {
-    ghost document = { ⟦<User as WrittenByParts>⟧.document };
+    ghost document = { ⟦<Self as WrittenBy<<Self as Schema>::Parts>>⟧.document };
 
     fn serialize<W: Write>(&self, ser: &mut Serializer<W>) -> Result<()> {
         ser.serialize_fields(self, &(&self.user_id, &self.password_hash))
@@ -48,9 +46,9 @@ impl Serialize for User {
 }
 
 impl Readable for User {
-    ghost reads = { ⟦<User as ReadByParts>⟧.reads };
+    ghost reads = { ⟦<Self as ReadBy<<Self as Schema>::Parts>>⟧.reads };
 
-    ghost wrong_forms = { ⟦<User as ReadByParts>⟧.wrong_forms };
+    ghost wrong_forms = { ⟦<Self as ReadBy<<Self as Schema>::Parts>>⟧.wrong_forms };
 }
 
 impl<'de, R: Read<'de>> Deserialize<'de, R> for User {
@@ -93,7 +91,7 @@ impl Schema for SmallStruct {
 }
 
 impl Serialize for SmallStruct {
-    ghost document = { ⟦<SmallStruct as WrittenByParts>⟧.document };
+    ghost document = { ⟦<Self as WrittenBy<<Self as Schema>::Parts>>⟧.document };
 
     fn serialize<W: Write>(&self, ser: &mut Serializer<W>) -> Result<()> {
         ser.serialize_fields(self, &(&self.spam, &self.eggs))
@@ -101,9 +99,9 @@ impl Serialize for SmallStruct {
 }
 
 impl Readable for SmallStruct {
-    ghost reads = { ⟦<SmallStruct as ReadByParts>⟧.reads };
+    ghost reads = { ⟦<Self as ReadBy<<Self as Schema>::Parts>>⟧.reads };
 
-    ghost wrong_forms = { ⟦<SmallStruct as ReadByParts>⟧.wrong_forms };
+    ghost wrong_forms = { ⟦<Self as ReadBy<<Self as Schema>::Parts>>⟧.wrong_forms };
 }
 
 impl<'de, R: Read<'de>> Deserialize<'de, R> for SmallStruct {
@@ -151,8 +149,7 @@ impl Schema for Mascot {
 }
 
 impl Serialize for Mascot {
-    ghost document = { λ x. ⟦<<Mascot as Schema>::Parts as PartsDocument>⟧.document
-        ⟦<Mascot as Schema>⟧.names (⟦<Mascot as Schema>⟧.parts x) };
+    ghost document = { ⟦<Self as WrittenBy<<Self as Schema>::Parts>>⟧.document };
 
     fn serialize<W: Write>(&self, ser: &mut Serializer<W>) -> Result<()> {
         ser.serialize_fields(self, &(&self.name, &self.species, &self.year_of_birth))
@@ -160,10 +157,9 @@ impl Serialize for Mascot {
 }
 
 impl Readable for Mascot {
-    ghost reads = { λ c r x. ⟦<<Mascot as Schema>::Parts as ReadableParts>⟧.reads
-        ⟦<Mascot as Schema>⟧.names c r (⟦<Mascot as Schema>⟧.parts x) };
+    ghost reads = { ⟦<Self as ReadBy<<Self as Schema>::Parts>>⟧.reads };
 
-    ghost wrong_forms = { ⟦<<Mascot as Schema>::Parts as ReadableParts>⟧.wrong_forms };
+    ghost wrong_forms = { ⟦<Self as ReadBy<<Self as Schema>::Parts>>⟧.wrong_forms };
 }
 
 impl<'de, R: Read<'de>> Deserialize<'de, R> for Mascot {
@@ -211,8 +207,7 @@ impl Schema for Person {
 }
 
 impl Serialize for Person {
-    ghost document = { λ x. ⟦<<Person as Schema>::Parts as PartsDocument>⟧.document
-        ⟦<Person as Schema>⟧.names (⟦<Person as Schema>⟧.parts x) };
+    ghost document = { ⟦<Self as WrittenBy<<Self as Schema>::Parts>>⟧.document };
 
     fn serialize<W: Write>(&self, ser: &mut Serializer<W>) -> Result<()> {
         ser.serialize_fields(self, &(&self.name, &self.year_of_birth, &self.profession))
@@ -220,10 +215,9 @@ impl Serialize for Person {
 }
 
 impl Readable for Person {
-    ghost reads = { λ c r x. ⟦<<Person as Schema>::Parts as ReadableParts>⟧.reads
-        ⟦<Person as Schema>⟧.names c r (⟦<Person as Schema>⟧.parts x) };
+    ghost reads = { ⟦<Self as ReadBy<<Self as Schema>::Parts>>⟧.reads };
 
-    ghost wrong_forms = { ⟦<<Person as Schema>::Parts as ReadableParts>⟧.wrong_forms };
+    ghost wrong_forms = { ⟦<Self as ReadBy<<Self as Schema>::Parts>>⟧.wrong_forms };
 }
 
 impl<'de, R: Read<'de>> Deserialize<'de, R> for Person {

@@ -13,7 +13,7 @@ pub use cbor_de::{
     variant_unit_taken,
 };
 pub use cbor_described::{
-    ReadByParts, ReadParts, ReadableParts, ReadableTuple, Variant, read_described,
+    ReadBy, ReadParts, ReadableParts, ReadableTuple, Variant, read_described,
 };
 pub use cbor_round_trip::RoundTrip;
 pub use cbor_strict::{from_slice_canonical, from_slice_canonical_as};

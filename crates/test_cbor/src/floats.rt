@@ -3,7 +3,7 @@
 ghost use Rattle.std.specs.Prelude.{codes};
 
 use serde_cbor::parts::Schema;
-use serde_cbor::ser::{PartsDocument, Serialize, Serializer, Write, to_vec_packed};
+use serde_cbor::ser::{Serialize, Serializer, Write, WrittenBy, to_vec_packed};
 use serde_cbor::{Result, to_vec};
 use test_checks::Done;
 
@@ -41,8 +41,7 @@ impl Schema for Reading {
 }
 
 impl Serialize for Reading {
-    ghost document = { λ x. ⟦<<Reading as Schema>::Parts as PartsDocument>⟧.document
-        ⟦<Reading as Schema>⟧.names (⟦<Reading as Schema>⟧.parts x) };
+    ghost document = { ⟦<Self as WrittenBy<<Self as Schema>::Parts>>⟧.document };
 
     fn serialize<W: Write>(&self, ser: &mut Serializer<W>) -> Result<()> {
         ser.serialize_fields(self, &(&self.celsius, &self.humidity, &self.spectrum))

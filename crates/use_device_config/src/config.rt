@@ -4,12 +4,10 @@ ghost use Rattle.std.specs.Prelude.{map};
 ghost use Rattle.serde_cbor.specs.Schemas.{newtype, optional, or_default};
 ghost use Rattle.use_device_config.specs.declared.config.TheConstants.{CONFIG, MODE};
 
-use serde_cbor::de::{
-    Deserialize, DeserializeOwned, Read, ReadByParts, Readable, ReadableParts, read_described,
-};
+use serde_cbor::de::{Deserialize, DeserializeOwned, Read, ReadBy, Readable, read_described};
 use serde_cbor::parts::{Newtype, OneOf2, Optional, OrDefault, Schema};
-use serde_cbor::round_trip::{PartsRoundTrip, RoundTripByParts};
-use serde_cbor::ser::{OptionalField, PartsDocument, Serialize, Serializer, Write, WrittenByParts};
+use serde_cbor::round_trip::RoundTripBy;
+use serde_cbor::ser::{OptionalField, Serialize, Serializer, Write, WrittenBy};
 use serde_cbor::{Deserializer, Result, RoundTrip};
 
 /// When a device measures.
@@ -50,7 +48,7 @@ impl Schema for Mode {
 }
 
 impl Serialize for Mode {
-    ghost document = { ⟦<Mode as WrittenByParts>⟧.document };
+    ghost document = { ⟦<Self as WrittenBy<<Self as Schema>::Parts>>⟧.document };
 
     fn serialize<W: Write>(&self, ser: &mut Serializer<W>) -> Result<()> {
         match self {
@@ -61,9 +59,9 @@ impl Serialize for Mode {
 }
 
 impl Readable for Mode {
-    ghost reads = { ⟦<Mode as ReadByParts>⟧.reads };
+    ghost reads = { ⟦<Self as ReadBy<<Self as Schema>::Parts>>⟧.reads };
 
-    ghost wrong_forms = { ⟦<Mode as ReadByParts>⟧.wrong_forms };
+    ghost wrong_forms = { ⟦<Self as ReadBy<<Self as Schema>::Parts>>⟧.wrong_forms };
 }
 
 impl<'de, R: Read<'de>> Deserialize<'de, R> for Mode {
@@ -79,7 +77,7 @@ impl DeserializeOwned for Mode {
 impl RoundTrip for Mode {
     ghost use Rattle.std.specs.Prelude.{refl};
 
-    ghost law = { ⟦<Mode as RoundTripByParts>⟧.law.by_names refl refl };
+    ghost law = { ⟦<Self as RoundTripBy<<Self as Schema>::Parts>>⟧.law.by_names refl refl };
 
     ghost back = { Self.law.back };
 }
@@ -119,8 +117,7 @@ impl Schema for Config {
 }
 
 impl Serialize for Config {
-    ghost document = { λ x. ⟦<<Config as Schema>::Parts as PartsDocument>⟧.document
-        ⟦<Config as Schema>⟧.names (⟦<Config as Schema>⟧.parts x) };
+    ghost document = { ⟦<Self as WrittenBy<<Self as Schema>::Parts>>⟧.document };
 
     fn serialize<W: Write>(&self, ser: &mut Serializer<W>) -> Result<()> {
         let name = OptionalField(&self.name);
@@ -129,10 +126,9 @@ impl Serialize for Config {
 }
 
 impl Readable for Config {
-    ghost reads = { λ c r x. ⟦<<Config as Schema>::Parts as ReadableParts>⟧.reads
-        ⟦<Config as Schema>⟧.names c r (⟦<Config as Schema>⟧.parts x) };
+    ghost reads = { ⟦<Self as ReadBy<<Self as Schema>::Parts>>⟧.reads };
 
-    ghost wrong_forms = { ⟦<<Config as Schema>::Parts as ReadableParts>⟧.wrong_forms };
+    ghost wrong_forms = { ⟦<Self as ReadBy<<Self as Schema>::Parts>>⟧.wrong_forms };
 }
 
 impl<'de, R: Read<'de>> Deserialize<'de, R> for Config {
@@ -147,10 +143,8 @@ impl DeserializeOwned for Config {
 
 impl RoundTrip for Config {
     ghost use Rattle.std.specs.Prelude.{refl};
-    ghost use Rattle.serde_cbor.specs.TypeLaws.{by_description};
 
-    ghost law = { by_description ⟦<Config as Schema>⟧.names ⟦<Config as Schema>⟧.parts
-        ⟦<<Config as Schema>::Parts as PartsRoundTrip>⟧.law refl refl };
+    ghost law = { ⟦<Self as RoundTripBy<<Self as Schema>::Parts>>⟧.law.by_names refl refl };
 
     ghost back = { Self.law.back };
 }

@@ -5,11 +5,9 @@ ghost use Rattle.serde_cbor.specs.OneOf3 as one_of;
 ghost use Rattle.serde_cbor.specs.Schemas.{newtype, tuple};
 ghost use Rattle.use_messages.specs.declared.messages.TheConstants.{REPLY, REQUEST};
 
-use serde_cbor::de::{
-    Deserialize, DeserializeOwned, Read, ReadByParts, Readable, ReadableParts, read_described,
-};
+use serde_cbor::de::{Deserialize, DeserializeOwned, Read, ReadBy, Readable, read_described};
 use serde_cbor::parts::{Newtype, OneOf3, Schema, Tuple};
-use serde_cbor::ser::{Serialize, Serializer, Write, WrittenByParts};
+use serde_cbor::ser::{Serialize, Serializer, Write, WrittenBy};
 use serde_cbor::{Deserializer, Result};
 
 /// What a client asks.
@@ -56,10 +54,9 @@ impl Schema for Request {
 }
 
 impl Readable for Request {
-    ghost reads = { λ c r x. ⟦<<Request as Schema>::Parts as ReadableParts>⟧.reads
-        ⟦<Request as Schema>⟧.names c r (⟦<Request as Schema>⟧.parts x) };
+    ghost reads = { ⟦<Self as ReadBy<<Self as Schema>::Parts>>⟧.reads };
 
-    ghost wrong_forms = { ⟦<<Request as Schema>::Parts as ReadableParts>⟧.wrong_forms };
+    ghost wrong_forms = { ⟦<Self as ReadBy<<Self as Schema>::Parts>>⟧.wrong_forms };
 }
 
 impl<'de, R: Read<'de>> Deserialize<'de, R> for Request {
@@ -110,7 +107,7 @@ impl Schema for Reply {
 }
 
 impl Serialize for Reply {
-    ghost document = { ⟦<Reply as WrittenByParts>⟧.document };
+    ghost document = { ⟦<Self as WrittenBy<<Self as Schema>::Parts>>⟧.document };
 
     fn serialize<W: Write>(&self, ser: &mut Serializer<W>) -> Result<()> {
         match self {
@@ -122,9 +119,9 @@ impl Serialize for Reply {
 }
 
 impl Readable for Reply {
-    ghost reads = { ⟦<Reply as ReadByParts>⟧.reads };
+    ghost reads = { ⟦<Self as ReadBy<<Self as Schema>::Parts>>⟧.reads };
 
-    ghost wrong_forms = { ⟦<Reply as ReadByParts>⟧.wrong_forms };
+    ghost wrong_forms = { ⟦<Self as ReadBy<<Self as Schema>::Parts>>⟧.wrong_forms };
 }
 
 impl<'de, R: Read<'de>> Deserialize<'de, R> for Reply {

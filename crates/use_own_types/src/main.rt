@@ -1,23 +1,20 @@
-//! Types of one's own: the program of `docs/OWN_TYPES.md`.
+//! Writes and reads the types of `own_types`, and prints what became of them.
 #![tactic(auto)]
 
-mod by_hand;
-mod records;
-mod shapes;
-
-use by_hand::{Bar, Point};
-use records::{Label, Metres, Pair, Reading, Settings, User};
+use own_types::by_hand::{Bar, Point};
+use own_types::records::{Label, Metres, Pair, Reading, Settings};
+use own_types::shapes::Shape;
+use own_types::user::User;
 use serde_cbor::bytes::ByteArray;
 use serde_cbor::ser::to_vec_packed;
 use serde_cbor::{Result, from_reader, from_slice, to_vec};
-use shapes::Shape;
 use std::process::ExitCode;
 
 fn main(rt: HostRuntime) -> ExitCode {
     match print_all(&rt) {
         Ok(()) => ExitCode::SUCCESS,
         Err(error) => {
-            let _ = eprintln!(rt; "own_types: {error}");
+            let _ = eprintln!(rt; "use_own_types: {error}");
             ExitCode::FAILURE
         }
     }

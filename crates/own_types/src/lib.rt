@@ -1,0 +1,7 @@
+//! Types of one's own, as `docs/OWN_TYPES.md` goes through them: by description, and two by hand.
+#![tactic(auto)]
+
+pub mod by_hand;
+pub mod records;
+pub mod shapes;
+pub mod user;
