@@ -1,0 +1,83 @@
+#!/usr/bin/env python3
+"""Counts anew the instructions that docs/SPEED.md gives of this library, and says where they are others;
+see README.md."""
+import concurrent.futures
+import itertools
+import os
+import shutil
+import sys
+
+import lists
+import picture
+import shapes
+import speed
+
+# How far a count may be from what the page says, as the C library differs in how it copies.
+NEAR = 0.03
+
+# The page's lists, by the script's names for them.
+LISTS = {
+    'Vec<bool>': 'bool',
+    'Vec<Option<u8>>, half null': 'Option<u8>, half null',
+    'Vec<i64>, of five bytes': 'i64, five bytes',
+    'Vec<u32>, of five bytes': 'u32, five bytes',
+    'Vec<u32>, below 24': 'u32, below 24',
+    'Vec<char>, ASCII': 'char, ASCII',
+    'Vec<&str>, of 8 bytes': '&str, 8 bytes',
+    'Vec<String>, of 8 bytes': 'String, 8 bytes',
+    'Vec<f64>, of 64 bits': 'f64',
+    'Vec<(u32, bool, String)>': '(u32, bool, String)',
+}
+
+
+def said():
+    """The page's two tables, each as its rows' names and what they say of reading, and of both."""
+    with open(picture.TABLES, encoding='utf-8') as page:
+        lines = page.read().split('\n')
+    for heading, read, both in picture.DRAWN:
+        begin = lines.index(next(line for line in lines if line.startswith(heading)))
+        rows = []
+        for line in lines[begin + 2:]:
+            if not line.startswith('|'):
+                break
+            cells = [cell.strip().replace('`', '') for cell in line.strip('|').split('|')]
+            rows.append((cells[0], float(cells[read - 1]), float(cells[both - 1])))
+        yield rows
+
+
+def shape_counted(shape):
+    """What a row of the first table takes, in millions; of records two rows, as a value and as a type."""
+    item = shapes.SHAPES[shape]()
+    requests = [speed.Request(task, item) for task in range(4 if shape == shapes.RECORDS else 2)]
+    counts = [speed.millions([speed.OURS], request)[0] for request in requests]
+    return [counts[i:i + 2] for i in range(0, len(counts), 2)]
+
+
+def list_counted(name):
+    """What an item of a list takes."""
+    kind, make = lists.LISTS[LISTS[name]]
+    item = lists.array(make() for _ in range(lists.COUNT))
+    return [lists.each(lists.OURS, task, kind, item) for task in lists.SLICES.values()]
+
+
+def main():
+    if shutil.which('valgrind') is None:
+        print('said: not compared, for valgrind is not here')
+        return 0
+    first, second = said()
+    with concurrent.futures.ThreadPoolExecutor(os.cpu_count()) as pool:
+        of_lists = pool.map(list_counted, [name for name, *_ in second])
+        of_shapes = pool.map(shape_counted, shapes.SHAPES)
+        counted = [*itertools.chain.from_iterable(of_shapes), *of_lists]
+    others = [
+        f'said: {name}: {said:.2f} on the page, {count:.2f} counted'
+        for (name, *says), counts in zip([*first, *second], counted, strict=True)
+        for said, count in zip(says, counts)
+        if abs(count - said) > NEAR * said + 0.05
+    ]
+    print('\n'.join(others) or f'said: {2 * len(counted)} counts, as docs/SPEED.md says')
+    return 1 if others else 0
+
+
+if __name__ == '__main__':
+    sys.exit(main())
