@@ -1,0 +1,33 @@
+//! What holds another value: a box, written and read, and what is lent, which is written alone.
+
+use samples::structs::SmallStruct;
+use serde_cbor::ser::Items;
+use serde_cbor::{from_reader, from_slice, to_vec};
+use test_checks::{Done, is_refused};
+
+#[test]
+fn a_box_is_what_it_holds(rt: HostRuntime) -> Done {
+    let alloc = rt.alloc();
+    let number: Box<u8> = from_slice(alloc, b"\x18\x2a")?;
+    assert!(&rt; *number == 42);
+    assert!(&rt; to_vec(alloc, &number)?.as_slice() == b"\x18\x2a");
+    let texts: Vec<Box<String>> = from_reader(alloc, b"\x81\x62hi".as_slice())?;
+    assert!(&rt; to_vec(alloc, &texts)?.as_slice() == b"\x81\x62hi");
+    is_refused(
+        from_slice::<Box<u8>>(alloc, b"\xf4"),
+        "invalid type: expected an integer",
+    )
+}
+
+#[test]
+fn what_is_lent_is_written_as_what_it_is(rt: HostRuntime) -> Done {
+    let alloc = rt.alloc();
+    let number = 500u16;
+    assert!(&rt; to_vec(alloc, &&number)?.as_slice() == b"\x19\x01\xf4");
+    assert!(&rt; to_vec(alloc, &Items(&[1, number]))?.as_slice() == b"\x82\x01\x19\x01\xf4");
+    assert!(&rt; to_vec(alloc, &Items::<u8>(&[]))?.as_slice() == b"\x80");
+    let small = SmallStruct { spam: 17, eggs: 42 };
+    let bytes = to_vec(alloc, &(&small, 1u8))?;
+    assert!(&rt; bytes.as_slice() == b"\x82\xa2\x64spam\x11\x64eggs\x18\x2a\x01");
+    Ok(())
+}
