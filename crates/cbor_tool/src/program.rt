@@ -58,6 +58,8 @@ pub enum Preset {
     LengthFirst,
     /// The canonical form of CTAP2.
     Ctap2,
+    /// dCBOR.
+    Dcbor,
 }
 
 impl Preset {
@@ -68,6 +70,7 @@ impl Preset {
             Preset::Deterministic => Rules::DETERMINISTIC,
             Preset::LengthFirst => Rules::LENGTH_FIRST,
             Preset::Ctap2 => Rules::CTAP2,
+            Preset::Dcbor => Rules::DCBOR,
         }
     }
 }

@@ -321,6 +321,10 @@ const BY_CTAP2: &[u8] = b"a218640020f6\nerror: key out of order at offset 5\n\
     error: tag not allowed at offset 1\nf7\n\
     error: EOF while parsing a value at offset 1\nerror: not hexadecimal\n";
 
+const BY_DCBOR: &[u8] = b"a218640020f6\nerror: key out of order at offset 5\n\
+    error: float not the shortest at offset 9\na18000\nc100\nerror: undefined at offset 1\n\
+    error: EOF while parsing a value at offset 1\nerror: not hexadecimal\n";
+
 #[test]
 fn answers_each_line_by_rules(rt: HostRuntime) -> Result<()> {
     let alloc = rt.alloc();
@@ -328,6 +332,7 @@ fn answers_each_line_by_rules(rt: HostRuntime) -> Result<()> {
         (Preset::Deterministic, BY_DETERMINISTIC),
         (Preset::LengthFirst, BY_LENGTH_FIRST),
         (Preset::Ctap2, BY_CTAP2),
+        (Preset::Dcbor, BY_DCBOR),
     ];
     for (preset, output) in forms {
         assert!(rt; answers_by_rules(alloc, preset, FORMS)?.as_slice() == output);

@@ -8,8 +8,8 @@ use crate::program::{Mode, Preset};
 use crate::sequence::Form;
 
 /// The mode that the words choose: no word is lenient, `strict`, `diagnose` and `diagnose --pretty`
-/// choose those, and `deterministic`, `length-first` and `ctap2` the rules of these forms. Other
-/// words choose none.
+/// choose those, and `deterministic`, `length-first`, `ctap2` and `dcbor` the rules of these forms.
+/// Other words choose none.
 pub fn mode(words: &[String]) -> Option<Mode>
     ensures { Chooses (map string_bytes words.now) result }
 {
@@ -20,6 +20,7 @@ pub fn mode(words: &[String]) -> Option<Mode>
         [word] if word.as_str() == "deterministic" => Some(Mode::ByRules(Preset::Deterministic)),
         [word] if word.as_str() == "length-first" => Some(Mode::ByRules(Preset::LengthFirst)),
         [word] if word.as_str() == "ctap2" => Some(Mode::ByRules(Preset::Ctap2)),
+        [word] if word.as_str() == "dcbor" => Some(Mode::ByRules(Preset::Dcbor)),
         [word, option] if word.as_str() == "diagnose" && option.as_str() == "--pretty" => {
             Some(Mode::DiagnosePretty)
         }
