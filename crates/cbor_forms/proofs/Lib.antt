@@ -1,9 +1,11 @@
 mod Odds
 mod Halves
 mod Narrowest
+mod Whole
 mod Keys
 mod Shortening
 mod Forms
+mod SameNumbers
 mod Refused
 mod Encoding
 mod Sorted

@@ -1,4 +1,6 @@
 pub mod Shortest
+pub mod Reduced
+pub mod Whole
 pub mod Shortened
 pub mod Deterministic
 pub mod LengthFirst

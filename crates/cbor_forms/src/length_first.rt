@@ -16,7 +16,8 @@ ghost use Rattle.cbor_io.specs.Head.{major_number};
 ghost use Rattle.cbor_value.specs.View.{view, views, map_view, pair_views};
 ghost use Rattle.cbor_convert.specs.Meaning.{value_of};
 ghost use Rattle.cbor_forms.specs.Shortened.{shortened, KeepsKeys};
-ghost use Rattle.cbor_forms.specs.Deterministic.{IsNotDeterministic};
+ghost use Rattle.cbor_forms.specs.Deterministic.{IsNotWrittenIn};
+ghost use Rattle.cbor_forms.specs.declared.values.Form.TheVariants.{Core};
 ghost use Rattle.cbor_forms.specs.LengthFirst.{length_first, all_length_first, encoded};
 ghost use Rattle.cbor_forms.specs.LengthFirst.{content, joined};
 
@@ -54,7 +55,7 @@ pub fn to_vec_length_first<T: Serialize>(alloc: Global, value: &T) -> Result<Vec
     // Memory aside, it refuses exactly what can't be stored, and keys that become one.
     ensures storable { OnOk result (IsStorableDocument (T.document value.now)) }
     ensures kept { OnOk result (KeepsKeys (value_of (T.document value.now))) }
-    ensures refused { IfErr result (IsNotDeterministic
+    ensures refused { IfErr result (IsNotWrittenIn Core
         (IsStorableDocument (T.document value.now)) (KeepsKeys (value_of (T.document value.now)))) }
 {
     let value = to_value(alloc, value)?;

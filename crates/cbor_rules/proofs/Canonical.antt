@@ -27,7 +27,7 @@ use Rattle.cbor_rules.specs.declared.settings.Rules.{Rules}
 use Rattle.cbor_rules.specs.declared.settings.KeyOrder.{KeyOrder}
 use Rattle.cbor_rules.specs.declared.settings.KeyOrder.TheVariants.{Bytewise}
 use Rattle.cbor_rules.specs.declared.settings.Rule.{Rule}
-use Rattle.cbor_rules.specs.declared.settings.Rule.TheVariants.{ShortestHeads, DefiniteLengths, PlainKeys, AscendingKeys, ShortestFloats, OneNan, NoUndefined, NoTags}
+use Rattle.cbor_rules.specs.declared.settings.Rule.TheVariants.{ShortestHeads, DefiniteLengths, PlainKeys, AscendingKeys, ReducedNumbers, ShortestFloats, OneNan, NoUndefined, NoTags}
 
 -- ---- places
 
@@ -242,6 +242,7 @@ number_fine order major n NoTags = and_false (major == 6)
 number_fine order major n DefiniteLengths = refl
 number_fine order major n PlainKeys = refl
 number_fine order major n AscendingKeys = refl
+number_fine order major n ReducedNumbers = refl
 number_fine order major n ShortestFloats = refl
 number_fine order major n OneNan = refl
 number_fine order major n NoUndefined = refl
@@ -252,6 +253,7 @@ float_fine order w bits NoTags = refl
 float_fine order w bits DefiniteLengths = refl
 float_fine order w bits PlainKeys = refl
 float_fine order w bits AscendingKeys = refl
+float_fine order w bits ReducedNumbers = refl
 float_fine order w bits ShortestFloats = refl
 float_fine order w bits OneNan = refl
 float_fine order w bits NoUndefined = refl
@@ -262,6 +264,7 @@ key_fine order before k is NoTags = refl
 key_fine order before k is DefiniteLengths = refl
 key_fine order before k is PlainKeys = refl
 key_fine order before k is AscendingKeys = ap (λ (o : Ordering). not (is_less o)) is
+key_fine order before k is ReducedNumbers = refl
 key_fine order before k is ShortestFloats = refl
 key_fine order before k is OneNan = refl
 key_fine order before k is NoUndefined = refl
@@ -277,6 +280,7 @@ simple_fine order s is NoTags = refl
 simple_fine order s is DefiniteLengths = refl
 simple_fine order s is PlainKeys = refl
 simple_fine order s is AscendingKeys = refl
+simple_fine order s is ReducedNumbers = refl
 simple_fine order s is ShortestFloats = refl
 simple_fine order s is OneNan = refl
 simple_fine order false_item is NoUndefined = refl

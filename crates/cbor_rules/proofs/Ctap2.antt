@@ -23,7 +23,7 @@ use Rattle.cbor_rules.specs.Presets.{defined, IsPlain, IsForCtap2, AreForCtap2, 
 use Rattle.cbor_rules.specs.Rules.{only, breaks, is_compound, is_less, key_cmp, major}
 use Rattle.cbor_rules.specs.declared.settings.Rules.{Rules}
 use Rattle.cbor_rules.specs.declared.settings.KeyOrder.TheVariants.{TypeFirst}
-use Rattle.cbor_rules.specs.declared.settings.Rule.TheVariants.{ShortestHeads, DefiniteLengths, PlainKeys, AscendingKeys, ShortestFloats, OneNan, NoUndefined, NoTags}
+use Rattle.cbor_rules.specs.declared.settings.Rule.TheVariants.{ShortestHeads, DefiniteLengths, PlainKeys, AscendingKeys, ReducedNumbers, ShortestFloats, OneNan, NoUndefined, NoTags}
 use Rattle.cbor_rules.proofs.Canonical as canonical
 use Rattle.cbor_rules.proofs.Canonical.{IsFine, AreFine, kept_fine, fine_kept, first_fine, rest_fine, both_fine, and_false, less, first_above, clean, in_range}
 use Rattle.cbor_rules.proofs.Deterministic.{fine_too}
@@ -43,6 +43,9 @@ to_canonical f fine up NoUndefined = fine NoUndefined
 to_canonical f fine up AscendingKeys = up
 to_canonical (key before k) fine up PlainKeys = refl
 to_canonical _ fine up PlainKeys = refl
+to_canonical (number_of m w n) fine up ReducedNumbers = refl
+to_canonical (float_bits w bits) fine up ReducedNumbers = refl
+to_canonical _ fine up ReducedNumbers = refl
 to_canonical (float_bits w bits) fine up ShortestFloats = refl
 to_canonical _ fine up ShortestFloats = refl
 to_canonical (float_bits w bits) fine up OneNan = refl
@@ -57,6 +60,9 @@ from_canonical f fine untagged plain up NoUndefined = fine NoUndefined
 from_canonical f fine untagged plain up NoTags = untagged
 from_canonical f fine untagged plain up PlainKeys = plain
 from_canonical f fine untagged plain up AscendingKeys = up
+from_canonical (number_of m w n) fine untagged plain up ReducedNumbers = refl
+from_canonical (float_bits w bits) fine untagged plain up ReducedNumbers = refl
+from_canonical _ fine untagged plain up ReducedNumbers = refl
 from_canonical (float_bits w bits) fine untagged plain up ShortestFloats = refl
 from_canonical _ fine untagged plain up ShortestFloats = refl
 from_canonical (float_bits w bits) fine untagged plain up OneNan = refl
@@ -313,6 +319,7 @@ not_defined f fine ShortestHeads = fine ShortestHeads
 not_defined f fine DefiniteLengths = fine DefiniteLengths
 not_defined f fine PlainKeys = fine PlainKeys
 not_defined f fine AscendingKeys = fine AscendingKeys
+not_defined f fine ReducedNumbers = fine ReducedNumbers
 not_defined f fine ShortestFloats = fine ShortestFloats
 not_defined f fine OneNan = fine OneNan
 not_defined (simple_item undefined_item) fine NoUndefined = refl

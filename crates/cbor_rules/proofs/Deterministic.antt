@@ -15,7 +15,8 @@ use Rattle.cbor_value.specs.View.{float_view}
 use Rattle.cbor_value.specs.declared.Float.{Float}
 use Rattle.cbor_value.specs.declared.Float.TheVariants.{Half}
 use Rattle.cbor_forms.specs.Shortest as forms
-use Rattle.cbor_forms.specs.Shortened.{shortened, all_shortened, pairs_shortened}
+use Rattle.cbor_forms.specs.Shortened.{shortened, rewritten, all_rewritten, pairs_rewritten}
+use Rattle.cbor_forms.specs.declared.values.Form.TheVariants.{Core}
 use Rattle.cbor_rules.specs.Features.{Feature, number as number_of, indefinite_length, simple_item, float_bits, key, Place, head_end, length_end, features, all_features, pair_features}
 use Rattle.cbor_rules.specs.Presets as presets
 use Rattle.cbor_rules.specs.Presets.{WrittenIsAccepted, AcceptedIsWritten, IsDeterministicOf, IsShortest, HasShortestFloats, HaveShortestFloats, PairsHaveShortestFloats, ShortenedHasShortestFloats, defined}
@@ -23,7 +24,7 @@ use Rattle.cbor_rules.specs.Rules.{only, breaks, floor}
 use Rattle.cbor_rules.specs.declared.settings.Rules.{Rules}
 use Rattle.cbor_rules.specs.declared.settings.KeyOrder.{KeyOrder}
 use Rattle.cbor_rules.specs.declared.settings.KeyOrder.TheVariants.{Bytewise}
-use Rattle.cbor_rules.specs.declared.settings.Rule.TheVariants.{ShortestHeads, DefiniteLengths, PlainKeys, AscendingKeys, ShortestFloats, OneNan, NoUndefined, NoTags}
+use Rattle.cbor_rules.specs.declared.settings.Rule.TheVariants.{ShortestHeads, DefiniteLengths, PlainKeys, AscendingKeys, ReducedNumbers, ShortestFloats, OneNan, NoUndefined, NoTags}
 use Rattle.cbor_rules.proofs.Canonical as canonical
 use Rattle.cbor_rules.proofs.Canonical.{IsFine, AreFine, by_keys, kept_fine, fine_kept, first_fine, rest_fine, both_fine, and_false}
 use Rattle.cbor_rules.proofs.Floats.{shortest_is, shortest_nan, kept_shortest, shortest_narrow, shortest_one}
@@ -55,6 +56,9 @@ is_canonical order f fine PlainKeys = fine PlainKeys
 is_canonical order f fine AscendingKeys = fine AscendingKeys
 is_canonical order f fine NoUndefined = fine NoUndefined
 is_canonical order f fine NoTags = fine NoTags
+is_canonical order (number_of m w n) fine ReducedNumbers = refl
+is_canonical order (float_bits w bits) fine ReducedNumbers = refl
+is_canonical order _ fine ReducedNumbers = refl
 is_canonical order (float_bits w bits) fine ShortestFloats = refl
 is_canonical order _ fine ShortestFloats = refl
 is_canonical order (float_bits w bits) fine OneNan = refl
@@ -65,6 +69,7 @@ is_all order f one floats ShortestHeads = one ShortestHeads
 is_all order f one floats DefiniteLengths = one DefiniteLengths
 is_all order f one floats PlainKeys = one PlainKeys
 is_all order f one floats AscendingKeys = one AscendingKeys
+is_all order f one floats ReducedNumbers = floats ReducedNumbers
 is_all order f one floats ShortestFloats = floats ShortestFloats
 is_all order f one floats OneNan = floats OneNan
 is_all order f one floats NoUndefined = one NoUndefined
@@ -74,6 +79,9 @@ is_all order f one floats NoTags = one NoTags
 floats_fine : (f : Feature) → breaks (only floats_only) ShortestFloats f ≡ false → breaks (only floats_only) OneNan f ≡ false → IsFine floats_only f
 floats_fine f short one ShortestFloats = short
 floats_fine f short one OneNan = one
+floats_fine (number_of m w n) short one ReducedNumbers = refl
+floats_fine (float_bits w bits) short one ReducedNumbers = refl
+floats_fine _ short one ReducedNumbers = refl
 floats_fine (number_of m w n) short one ShortestHeads = and_false (nat_lt n (floor w))
 floats_fine _ short one ShortestHeads = refl
 floats_fine (number_of m w n) short one NoTags = and_false (m == 6)
@@ -97,6 +105,7 @@ not_defined order f fine ShortestHeads = fine ShortestHeads
 not_defined order f fine DefiniteLengths = fine DefiniteLengths
 not_defined order f fine PlainKeys = fine PlainKeys
 not_defined order f fine AscendingKeys = fine AscendingKeys
+not_defined order f fine ReducedNumbers = fine ReducedNumbers
 not_defined order f fine ShortestFloats = fine ShortestFloats
 not_defined order f fine OneNan = fine OneNan
 not_defined order (simple_item undefined_item) fine NoUndefined = refl
@@ -178,6 +187,7 @@ module _ (apart : ApartFloats) where
   pub float_fine : (w : FloatWidth) (bits : ℕ) → IsShortest w bits → IsFine floats_only (float_bits w bits)
   float_fine w bits is ShortestFloats = shortest_narrow w bits is
   float_fine w bits is OneNan = shortest_one apart w bits is
+  float_fine w bits is ReducedNumbers = refl
   float_fine w bits is ShortestHeads = refl
   float_fine w bits is DefiniteLengths = refl
   float_fine w bits is PlainKeys = refl
@@ -226,19 +236,19 @@ module _ (once : (v : Val) → shortened (shortened v) ≡ shortened v) where
   shortest_of single bits is = is
   shortest_of double bits is = is
 
-  float_shortened : (w : FloatWidth) (bits : ℕ) → HasShortestFloats (forms.shortest (number w bits))
-  unfolding shortened
+  pub float_shortened : (w : FloatWidth) (bits : ℕ) → HasShortestFloats (forms.shortest (number w bits))
+  unfolding rewritten
   float_shortened w bits =
       let s = shortest_is (number w bits) in
       subst HasShortestFloats (sym s.is)
       (shortest_of s.width s.bits (subst (λ (v : Val). shortened v ≡ v) s.is (once (float w bits))))
 
-  put_all_short : (ps onto : Pairs) → PairsHaveShortestFloats ps → PairsHaveShortestFloats onto → PairsHaveShortestFloats (put_all ps onto)
+  pub put_all_short : (ps onto : Pairs) → PairsHaveShortestFloats ps → PairsHaveShortestFloats onto → PairsHaveShortestFloats (put_all ps onto)
   put_all_short no_pairs onto all others = others
   put_all_short (pair k v ps) onto all others = put_all_short ps (put k v onto) all.2 (put_short k v onto all.0 all.1 others)
 
   mutual
-    unfolding shortened
+    unfolding rewritten
 
     pub shortened_short : (v : Val) → HasShortestFloats (shortened v)
     shortened_short null = tt
@@ -248,14 +258,14 @@ module _ (once : (v : Val) → shortened (shortened v) ≡ shortened v) where
     shortened_short (bytes b) = tt
     shortened_short (text b) = tt
     shortened_short (array vs) = all_shortened_short vs
-    shortened_short (map ps) = put_all_short (pairs_shortened ps) no_pairs (pairs_shortened_short ps) tt
+    shortened_short (map ps) = put_all_short (pairs_rewritten Core ps) no_pairs (pairs_shortened_short ps) tt
     shortened_short (tag n v) = shortened_short v
 
-    all_shortened_short : (vs : Vals) → HaveShortestFloats (all_shortened vs)
+    all_shortened_short : (vs : Vals) → HaveShortestFloats (all_rewritten Core vs)
     all_shortened_short no_vals = tt
     all_shortened_short (val v vs) = (shortened_short v, all_shortened_short vs)
 
-    pairs_shortened_short : (ps : Pairs) → PairsHaveShortestFloats (pairs_shortened ps)
+    pairs_shortened_short : (ps : Pairs) → PairsHaveShortestFloats (pairs_rewritten Core ps)
     pairs_shortened_short no_pairs = tt
     pairs_shortened_short (pair k v ps) = (shortened_short k, shortened_short v, pairs_shortened_short ps)
 
@@ -293,5 +303,5 @@ module _ (apart : ApartFloats) where
 
 -- floats of one number have one shortest float
 pub apart : ((a b : Float) → (number_of_float a ≡ number_of_float b) ↔ (shortened (float_view a) ≡ shortened (float_view b))) → ApartFloats
-unfolding shortened
+unfolding rewritten
 apart same a b is = (same (Half a) (Half b)).1 is

@@ -10,7 +10,7 @@ use Rattle.cbor_model.specs.Spelling.{spell, spell_all, spell_pairs, chunk, brea
 use Rattle.cbor_rules.specs.Features.{Feature, Place, features, all_features, pair_features, chunk_places}
 use Rattle.cbor_rules.specs.Rules.{Terms, breaks, first_broken, all_rules, broken, departure_or, departure_in, first_departure, IsFirst, NoneWhereKept, FirstIsLeast}
 use Rattle.cbor_rules.specs.declared.settings.Rule.{Rule}
-use Rattle.cbor_rules.specs.declared.settings.Rule.TheVariants.{ShortestHeads, DefiniteLengths, PlainKeys, AscendingKeys, ShortestFloats, OneNan, NoUndefined, NoTags}
+use Rattle.cbor_rules.specs.declared.settings.Rule.TheVariants.{ShortestHeads, DefiniteLengths, PlainKeys, AscendingKeys, ReducedNumbers, ShortestFloats, OneNan, NoUndefined, NoTags}
 use Rattle.cbor_rules.specs.declared.answers.Departure.{Departure}
 
 -- ---- one feature
@@ -46,13 +46,14 @@ module _ (terms : Terms) (f : Feature) where
   pick kept DefiniteLengths = kept.1.0
   pick kept PlainKeys = kept.1.1.0
   pick kept AscendingKeys = kept.1.1.1.0
-  pick kept ShortestFloats = kept.1.1.1.1.0
-  pick kept OneNan = kept.1.1.1.1.1.0
-  pick kept NoUndefined = kept.1.1.1.1.1.1.0
-  pick kept NoTags = kept.1.1.1.1.1.1.1.0
+  pick kept ReducedNumbers = kept.1.1.1.1.0
+  pick kept ShortestFloats = kept.1.1.1.1.1.0
+  pick kept OneNan = kept.1.1.1.1.1.1.0
+  pick kept NoUndefined = kept.1.1.1.1.1.1.1.0
+  pick kept NoTags = kept.1.1.1.1.1.1.1.1.0
 
   gather : ((rule : Rule) → breaks terms rule f ≡ false) → AreKept all_rules
-  gather each = (each ShortestHeads, (each DefiniteLengths, (each PlainKeys, (each AscendingKeys, (each ShortestFloats, (each OneNan, (each NoUndefined, (each NoTags, tt))))))))
+  gather each = (each ShortestHeads, (each DefiniteLengths, (each PlainKeys, (each AscendingKeys, (each ReducedNumbers, (each ShortestFloats, (each OneNan, (each NoUndefined, (each NoTags, tt)))))))))
 
 -- ---- places
 

@@ -7,6 +7,7 @@ pub mod Canonical
 pub mod Floats
 pub mod Deterministic
 pub mod Puts
+pub mod Dcbor
 pub mod LengthFirst
 pub mod LengthFirstItems
 pub mod TypeOrder

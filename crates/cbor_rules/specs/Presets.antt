@@ -1,5 +1,5 @@
 -- The presets of rules, and what their writers write.
-use Rattle.std.specs.Prelude.{◌≡◌, ℕ, ◌^◌, ◌<◌, true, false, List, [], ◌∷◌, length}
+use Rattle.std.specs.Prelude.{◌≡◌, ℕ, ◌^◌, ◌<◌, true, false, List, [], ◌∷◌, length, None}
 use Rattle.std.specs.Prelude.{refl}
 use Rattle.std.specs.Float.{nan}
 use Rattle.std.specs.Float.Ieee.{fits, odd, of_bits, of_fields, to_bits}
@@ -8,12 +8,13 @@ use Rattle.cbor_model.specs.Canonical.{canon, IsStorable}
 use Rattle.cbor_model.specs.InRange.{IsInRange}
 use Rattle.cbor_model.specs.Laws.{SpellsValue}
 use Rattle.cbor_model.specs.Order.{lex}
-use Rattle.cbor_model.specs.Plain.{Val, float, array, map, tag, Vals, no_vals, val}
+use Rattle.cbor_model.specs.Plain.{Val, integer, float, array, map, tag, Vals, no_vals, val}
 use Rattle.cbor_model.specs.Plain.{Pairs, no_pairs, pair}
 use Rattle.cbor_model.specs.Raw.{FloatWidth, half, single}
 use Rattle.cbor_value.specs.Floats.{number, half_number}
 use Rattle.cbor_forms.specs.LengthFirst as forms
-use Rattle.cbor_forms.specs.Shortened.{shortened}
+use Rattle.cbor_forms.specs.Reduced.{integer_of, IsReducedInteger}
+use Rattle.cbor_forms.specs.Shortened.{shortened, reduced, IsReducible}
 use Rattle.cbor_forms.specs.Shortest.{shortest}
 use Rattle.cbor_rules.specs.Rules.{Keeps, key_cmp, only}
 use Rattle.cbor_rules.specs.declared.settings.Rules.{Rules}
@@ -27,6 +28,7 @@ any_item = record {
   plain_keys = false;
   shortest_heads = false;
   definite_lengths = false;
+  reduced_numbers = false;
   shortest_floats = false;
   one_nan = false;
   no_undefined = false;
@@ -70,6 +72,10 @@ ctap2 = record any_item {
 abbrev pub defined : Rules → Rules
 defined rules = record rules { no_undefined = true }
 
+-- dCBOR (draft-mcnally-deterministic-cbor), but for the normalization of text
+abbrev pub dcbor : Rules
+dcbor = record (defined deterministic) { reduced_numbers = true }
+
 -- ---- what is written
 
 -- the bytes are what the value is written as canonically
@@ -107,6 +113,30 @@ IsDeterministicOf bytes v = HasShortestFloats v × (bytes ≡ canon v)
 -- likewise with shorter keys first
 abbrev pub IsLengthFirstOf : List ℕ → Val → Type 0
 IsLengthFirstOf bytes v = HasShortestFloats v × (bytes ≡ forms.length_first v)
+
+-- each number of the value is as dCBOR has it: no float is an integer in its range, and no integer
+-- is out of it
+abbrev mutual
+  pub HasReducedNumbers : Val → Type 0
+  HasReducedNumbers (integer z) = IsReducedInteger z
+  HasReducedNumbers (float w bits) = integer_of (number w bits) ≡ None
+  HasReducedNumbers (array vs) = HaveReducedNumbers vs
+  HasReducedNumbers (map ps) = PairsHaveReducedNumbers ps
+  HasReducedNumbers (tag n v) = HasReducedNumbers v
+  HasReducedNumbers _ = Unit {0}
+
+  pub HaveReducedNumbers : Vals → Type 0
+  HaveReducedNumbers no_vals = Unit {0}
+  HaveReducedNumbers (val v vs) = HasReducedNumbers v × HaveReducedNumbers vs
+
+  pub PairsHaveReducedNumbers : Pairs → Type 0
+  PairsHaveReducedNumbers no_pairs = Unit {0}
+  PairsHaveReducedNumbers (pair k v ps) =
+      HasReducedNumbers k × HasReducedNumbers v × PairsHaveReducedNumbers ps
+
+-- the bytes are what the value is written as in dCBOR
+abbrev pub IsDcborOf : List ℕ → Val → Type 0
+IsDcborOf bytes v = HasReducedNumbers v × IsDeterministicOf bytes v
 
 -- a number, a string or a simple value
 abbrev pub IsPlain : Val → Type 0
@@ -152,6 +182,11 @@ AcceptedIsWritten rules P = (bytes : List ℕ) (v : Val) → length bytes < 2 ^ 
 -- What is written deterministically, or with shorter keys first, has its floats at their shortest.
 abbrev pub ShortenedHasShortestFloats : Type 0
 ShortenedHasShortestFloats = (v : Val) → HasShortestFloats (shortened v)
+
+-- What is written in dCBOR has its numbers reduced, and its floats at their shortest.
+abbrev pub ReducedHasReducedNumbers : Type 0
+ReducedHasReducedNumbers = (v : Val) → IsReducible v
+    → HasReducedNumbers (reduced v) × HasShortestFloats (reduced v)
 
 -- CTAP2's order of keys is that of their bytes, for keys that are plain.
 abbrev pub TypeFirstIsBytewise : Type 0

@@ -1,6 +1,6 @@
 -- Which features break a rule, which items keep the rules that are on, and the first departure.
-use Rattle.std.specs.Prelude.{◌≡◌, ℕ, ◌≤◌, ◌/◌, Bool, true, false, List, [], ◌∷◌, Option, Some, None}
-use Rattle.std.specs.Prelude.{◌&&◌, ◌==◌, not, nat_lt, if◌then◌else◌, slice_index, refl}
+use Rattle.std.specs.Prelude.{◌≡◌, ℕ, ◌≤◌, ◌/◌, ◌^◌, Bool, true, false, List, [], ◌∷◌, Option, Some, None}
+use Rattle.std.specs.Prelude.{◌&&◌, ◌==◌, not, nat_le, nat_lt, is_some, if◌then◌else◌, slice_index, refl}
 use Rattle.std.specs.List.{AllByRecursion, Contains, list_any}
 use Rattle.std.specs.Ordering.{ordering_then, nat_cmp}
 use Rattle.std.specs.declared.cmp.Ordering.{Ordering}
@@ -16,6 +16,7 @@ use Rattle.cbor_model.specs.Plain.{Val}
 use Rattle.cbor_model.specs.Order.{lex}
 use Rattle.cbor_model.specs.Spelling.{spell}
 use Rattle.cbor_value.specs.Floats as floats
+use Rattle.cbor_forms.specs.Reduced.{integer_of}
 use Rattle.cbor_forms.specs.Shortest.{shortest}
 use Rattle.cbor_forms.specs.LengthFirst.{by_length}
 use Rattle.cbor_rules.specs.Features.{Feature, number, indefinite_length, simple_item, float_bits, key, Place}
@@ -27,6 +28,7 @@ use Rattle.cbor_rules.specs.declared.settings.KeyOrder.TheVariants.{TypeFirst}
 use Rattle.cbor_rules.specs.declared.settings.Rule.{Rule}
 use Rattle.cbor_rules.specs.declared.settings.Rule.TheVariants.{ShortestHeads, DefiniteLengths}
 use Rattle.cbor_rules.specs.declared.settings.Rule.TheVariants.{PlainKeys, AscendingKeys, OneNan}
+use Rattle.cbor_rules.specs.declared.settings.Rule.TheVariants.{ReducedNumbers}
 use Rattle.cbor_rules.specs.declared.settings.Rule.TheVariants.{ShortestFloats, NoUndefined, NoTags}
 use Rattle.cbor_rules.specs.declared.answers.Departure.{Departure}
 
@@ -100,6 +102,10 @@ breaks terms NoTags (number m w n) =
     (m == 6) && (not (is_among n terms.tags) && terms.rules.no_tags)
 breaks terms DefiniteLengths indefinite_length = terms.rules.definite_lengths
 breaks terms NoUndefined (simple_item undefined_item) = terms.rules.no_undefined
+breaks terms ReducedNumbers (number m w n) =
+    terms.rules.reduced_numbers && ((m == 1) && nat_le (2 ^ 63) n)
+breaks terms ReducedNumbers (float_bits w bits) =
+    terms.rules.reduced_numbers && is_some (integer_of (floats.number w bits))
 breaks terms ShortestFloats (float_bits w bits) = terms.rules.shortest_floats && is_wide w bits
 breaks terms OneNan (float_bits w bits) = terms.rules.one_nan && is_other_nan w bits
 breaks terms PlainKeys (key before k) = terms.rules.plain_keys && is_compound k
@@ -125,8 +131,8 @@ first_broken terms f (rule ∷ others) =
 -- each rule
 abbrev pub all_rules : List Rule
 all_rules =
-    ShortestHeads ∷ DefiniteLengths ∷ PlainKeys ∷ AscendingKeys ∷ ShortestFloats ∷ OneNan
-    ∷ NoUndefined ∷ NoTags ∷ []
+    ShortestHeads ∷ DefiniteLengths ∷ PlainKeys ∷ AscendingKeys ∷ ReducedNumbers ∷ ShortestFloats
+    ∷ OneNan ∷ NoUndefined ∷ NoTags ∷ []
 
 abbrev pub broken : Terms → Feature → Option Rule
 broken terms f = first_broken terms f all_rules
@@ -176,6 +182,7 @@ keys_only order = record {
   plain_keys = false;
   shortest_heads = false;
   definite_lengths = false;
+  reduced_numbers = false;
   shortest_floats = false;
   one_nan = false;
   no_undefined = false;
@@ -212,6 +219,20 @@ one_and_a_half_wide : first_departure (only (record (keys_only Any) { shortest_f
     ≡ Some (record { rule = ShortestFloats; offset = 5 })
 unfolding first_departure features shortest of_bits of_fields odd fits to_bits
 one_and_a_half_wide = refl
+
+-- f9 3c 00, which is 1, and 3b 80 00 00 00 00 00 00 00, which is below -2^63
+one_as_float : first_departure
+    (only (record (keys_only Any) { reduced_numbers = true; shortest_floats = true }))
+    (float half 0x3c00)
+    ≡ Some (record { rule = ReducedNumbers; offset = 3 })
+unfolding first_departure features shortest floats.half_number of_bits of_fields odd fits to_bits
+one_as_float = refl
+
+too_low : first_departure (only (record (keys_only Any) { reduced_numbers = true }))
+    (negative eight_bytes (2 ^ 63))
+    ≡ Some (record { rule = ReducedNumbers; offset = 9 })
+unfolding first_departure features
+too_low = refl
 
 -- f9 7e 01
 other_nan : first_departure

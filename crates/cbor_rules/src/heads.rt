@@ -8,7 +8,7 @@ ghost use Rattle.cbor_rules.specs.Rules.{broken, float_size, floor, is_quiet_nan
 ghost use Rattle.cbor_rules.specs.Walks.{float_feature};
 
 use crate::settings::{Rule, Rules};
-use cbor_forms::shortest;
+use cbor_forms::{integer_of, shortest};
 use cbor_value::Float;
 
 /// The rule that a head with this number breaks, if it does: of this major type, below 7, after a
@@ -26,6 +26,8 @@ pub(crate) fn broken_by_number(
 {
     if rules.shortest_heads && is_long(low, n) {
         Some(Rule::ShortestHeads)
+    } else if rules.reduced_numbers && major == 1 && 1 << 63 <= n {
+        Some(Rule::ReducedNumbers)
     } else if rules.no_tags && major == 6 && !tags.contains(&n) {
         Some(Rule::NoTags)
     } else {
@@ -52,6 +54,9 @@ fn is_long(low: u8, n: u64) -> bool
 pub(crate) fn broken_by_float(rules: Rules, float: Float) -> Option<Rule>
     ensures { result ≡ broken (only rules) (float_feature float) }
 {
+    if rules.reduced_numbers && integer_of(float).is_some() {
+        return Some(Rule::ReducedNumbers);
+    }
     if !rules.shortest_floats && !rules.one_nan {
         return None;
     }

@@ -6,14 +6,19 @@
 
 ghost use Rattle.std.specs.Prelude.{◌≡◌};
 ghost use Rattle.cbor_rules.specs.Rules.{FirstIsLeast, NoneWhereKept};
-ghost use Rattle.cbor_rules.specs.Presets.{any_item, canonical, ctap2, deterministic, length_first};
+ghost use Rattle.cbor_rules.specs.Presets.{any_item, canonical, ctap2, dcbor, deterministic};
+ghost use Rattle.cbor_rules.specs.Presets.{length_first};
 ghost use Rattle.cbor_rules.specs.Presets.{AcceptedIsWritten, WrittenIsAccepted, defined};
 ghost use Rattle.cbor_rules.specs.Presets.{IsCanonicalOf, IsDeterministicOf, IsLengthFirstOf};
 ghost use Rattle.cbor_rules.specs.Presets.{IsCtap2Of, TypeFirstIsBytewise};
+ghost use Rattle.cbor_rules.specs.Presets.{IsDcborOf, ReducedHasReducedNumbers};
 ghost use Rattle.cbor_rules.specs.Presets.{ShortenedHasShortestFloats};
 
 use crate::settings::Rules;
-use cbor_forms::{length_first_reads_back, same_number_same_float, shortened_once};
+use cbor_forms::{
+    length_first_reads_back, reduced_once, same_number_in_dcbor, same_number_same_float,
+    shortened_once,
+};
 
 /// An item departs nowhere exactly where it keeps each rule that is on.
 pub fn none_where_kept()
@@ -32,6 +37,7 @@ pub fn presets()
     ensures deterministic { Rules.DETERMINISTIC ≡ deterministic }
     ensures length_first { Rules.LENGTH_FIRST ≡ length_first }
     ensures ctap2 { Rules.CTAP2 ≡ ctap2 }
+    ensures dcbor { Rules.DCBOR ≡ dcbor }
 {}
 
 /// What is written canonically, as `to_vec_canonical` does, keeps the canonical rules.
@@ -87,6 +93,28 @@ pub fn ctap2_accepted_is_written()
 pub fn type_first_is_bytewise()
     ensures { TypeFirstIsBytewise }
 {}
+
+/// What is written as dCBOR keeps its rules.
+pub fn dcbor_written_is_accepted()
+    ensures { WrittenIsAccepted Rules.DCBOR IsDcborOf }
+{
+    same_number_same_float();
+}
+
+/// What keeps dCBOR's rules is written so.
+pub fn dcbor_accepted_is_written()
+    ensures { AcceptedIsWritten Rules.DCBOR IsDcborOf }
+{}
+
+/// A value as `to_vec_dcbor` writes it has dCBOR's numbers: it is what
+/// [`dcbor_written_is_accepted`] asks for.
+pub fn reduced_has_reduced_numbers()
+    ensures { ReducedHasReducedNumbers }
+{
+    shortened_once();
+    reduced_once();
+    same_number_in_dcbor();
+}
 
 /// A value as `to_vec_deterministic` and `to_vec_length_first` write it has its floats at their
 /// shortest.

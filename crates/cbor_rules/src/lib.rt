@@ -17,9 +17,9 @@ pub use answers::{Departure, Refusal};
 pub use from::{from_slice_with, from_slice_with_tags};
 pub use laws::{
     canonical_accepted_is_written, canonical_written_is_accepted, ctap2_accepted_is_written,
-    ctap2_written_is_accepted, deterministic_accepted_is_written,
-    deterministic_written_is_accepted, first_is_least, length_first_accepted_is_written,
-    length_first_written_is_accepted, none_where_kept, presets, shortened_has_shortest_floats,
-    type_first_is_bytewise,
+    ctap2_written_is_accepted, dcbor_accepted_is_written, dcbor_written_is_accepted,
+    deterministic_accepted_is_written, deterministic_written_is_accepted, first_is_least,
+    length_first_accepted_is_written, length_first_written_is_accepted, none_where_kept, presets,
+    reduced_has_reduced_numbers, shortened_has_shortest_floats, type_first_is_bytewise,
 };
 pub use settings::{KeyOrder, Rule, Rules};

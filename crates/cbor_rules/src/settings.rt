@@ -29,6 +29,9 @@ pub enum Rule {
     PlainKeys,
     /// Each map's keys strictly ascend.
     AscendingKeys,
+    /// No float is an integer from -2^63 to 2^64 - 1, and no integer is below -2^63: dCBOR's
+    /// numeric reduction (draft-mcnally-deterministic-cbor).
+    ReducedNumbers,
     /// No float could be narrower and the same number.
     ShortestFloats,
     /// Each NaN is `f9 7e 00`.
@@ -55,6 +58,9 @@ pub struct Rules {
     pub shortest_heads: bool,
     /// Whether each length has to be definite.
     pub definite_lengths: bool,
+    /// Whether each number has to be as dCBOR reduces it: an integer where it is one from -2^63 to
+    /// 2^64 - 1, and no integer below these.
+    pub reduced_numbers: bool,
     /// Whether each float has to be at its shortest.
     pub shortest_floats: bool,
     /// Whether each NaN has to be `f9 7e 00`.
@@ -72,6 +78,7 @@ impl Rules {
         plain_keys: false,
         shortest_heads: false,
         definite_lengths: false,
+        reduced_numbers: false,
         shortest_floats: false,
         one_nan: false,
         no_undefined: false,
@@ -86,6 +93,7 @@ impl Rules {
         plain_keys: false,
         shortest_heads: true,
         definite_lengths: true,
+        reduced_numbers: false,
         shortest_floats: false,
         one_nan: false,
         no_undefined: true,
@@ -101,6 +109,7 @@ impl Rules {
         plain_keys: false,
         shortest_heads: true,
         definite_lengths: true,
+        reduced_numbers: false,
         shortest_floats: true,
         one_nan: true,
         no_undefined: false,
@@ -114,6 +123,7 @@ impl Rules {
         plain_keys: false,
         shortest_heads: true,
         definite_lengths: true,
+        reduced_numbers: false,
         shortest_floats: true,
         one_nan: true,
         no_undefined: false,
@@ -131,10 +141,27 @@ impl Rules {
         plain_keys: true,
         shortest_heads: true,
         definite_lengths: true,
+        reduced_numbers: false,
         shortest_floats: false,
         one_nan: false,
         no_undefined: false,
         no_tags: true,
+    };
+
+    /// dCBOR (draft-mcnally-deterministic-cbor): the core deterministic encoding, with each number
+    /// that is an integer from -2^63 to 2^64 - 1 as that integer, no other integers, and of simple
+    /// values false, true and null alone. It is what `to_vec_dcbor` writes. That text is in
+    /// Unicode's normalization form C, as the draft asks, is not looked at.
+    pub const DCBOR: Rules = Rules {
+        keys: KeyOrder::Bytewise,
+        plain_keys: false,
+        shortest_heads: true,
+        definite_lengths: true,
+        reduced_numbers: true,
+        shortest_floats: true,
+        one_nan: true,
+        no_undefined: true,
+        no_tags: false,
     };
 
     /// These, with this order of keys.

@@ -4,6 +4,8 @@
 #[cfg(test)]
 mod checks;
 #[cfg(test)]
+mod dcbor;
+#[cfg(test)]
 mod floats;
 #[cfg(test)]
 mod keys;

@@ -1,7 +1,7 @@
 //! A value is asked once to write itself, by each call that makes something of its document.
 
 use cbor_convert::{to_value, to_vec_canonical};
-use cbor_forms::{to_vec_deterministic, to_vec_length_first};
+use cbor_forms::{to_vec_dcbor, to_vec_deterministic, to_vec_length_first};
 use cbor_io::error::Result;
 use cbor_ser::{Serialize, Serializer, Write};
 use std::alloc::Global;
@@ -30,6 +30,7 @@ fn give_to_each(alloc: Global, counted: &Counted) -> Done {
     to_vec_canonical(alloc, counted)?;
     to_vec_deterministic(alloc, counted)?;
     to_vec_length_first(alloc, counted)?;
+    to_vec_dcbor(alloc, counted)?;
     Ok(())
 }
 
@@ -40,6 +41,6 @@ fn writes_a_value_once(rt: HostRuntime) -> Done {
         times: Cell::new(0),
     };
     give_to_each(rt.alloc(), &counted)?;
-    assert!(rt; counted.times.get() == 4);
+    assert!(rt; counted.times.get() == 5);
     Ok(())
 }

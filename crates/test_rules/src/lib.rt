@@ -6,6 +6,8 @@ mod appendix;
 #[cfg(test)]
 mod checks;
 #[cfg(test)]
+mod dcbor;
+#[cfg(test)]
 mod keys;
 #[cfg(test)]
 mod rules;
