@@ -109,6 +109,7 @@ pub use Rattle.cbor_io.specs.Compare
 pub use Rattle.cbor_tags.specs.Numbers
 pub use Rattle.cbor_tags.specs.Times
 pub use Rattle.cbor_forms.specs.Shortest
+pub use Rattle.cbor_forms.specs.Reduced
 pub use Rattle.cbor_forms.specs.Shortened
 pub use Rattle.cbor_forms.specs.Deterministic
 pub use Rattle.cbor_forms.specs.LengthFirst

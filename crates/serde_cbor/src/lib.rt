@@ -7,7 +7,8 @@
 //! sign or to hash, and [`from_slice_canonical`] accepts canonical encodings alone. Values compare
 //! as the bytes of their canonical encodings do, and a map lists its keys in that order.
 //! [`to_vec_deterministic`] and [`to_vec_length_first`] write the forms that RFC 8949 names, in
-//! which floats are at their shortest.
+//! which floats are at their shortest, and [`to_vec_dcbor`] dCBOR, in which floats that are integers
+//! are these.
 //!
 //! - [`de`], [`stream`], [`strict`]: reading; [`ser`]: writing
 //! - [`rules`]: reading by rules of your own, each a switch, or by the form that a name stands for
@@ -44,7 +45,7 @@ pub use cbor_de::{
     Deserializer, Formats, StreamDeserializer, from_mut_slice, from_reader, from_slice,
     from_slice_with_scratch,
 };
-pub use cbor_forms::{to_vec_deterministic, to_vec_length_first};
+pub use cbor_forms::{to_vec_dcbor, to_vec_deterministic, to_vec_length_first};
 pub use cbor_io::error::{Error, Result};
 pub use cbor_io::{error, write};
 pub use cbor_model as model;
