@@ -26,7 +26,7 @@ mod value;
 pub use cbor_io::error::{Category, Error, ErrorCode, Result};
 pub use cbor_io::write::{IoWrite, SliceWrite, Write};
 pub use cbor_serde_options::Options;
-pub use cbor_serde_value::Item;
+pub use cbor_serde_value::{FloatItem, Item};
 pub use cbor_value::{Float, Value};
 pub use de::{
     from_reader, from_reader_with, from_slice, from_slice_canonical, from_slice_canonical_with,

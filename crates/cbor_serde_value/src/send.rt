@@ -27,8 +27,8 @@ pub(crate) fn send<S: Serializer>(value: &Value, out: &mut S) -> Result<(), S::E
     }
 }
 
-// A half is sent as a single, which holds it.
-fn send_float<S: Serializer>(float: Float, out: &mut S) -> Result<(), S::Error>
+/// Sends a float: a half as a single, which holds it.
+pub(crate) fn send_float<S: Serializer>(float: Float, out: &mut S) -> Result<(), S::Error>
     ensures { OnOk result (SendsValue (float_view float) (S.written out.old) (S.written out.new)) }
 {
     let number = float.to_f64();

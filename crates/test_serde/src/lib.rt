@@ -1,9 +1,11 @@
-//! Tests over `cbor_serde`: each call once, what a type may not send, options, values, devices that
-//! fail, and streams of items.
+//! Tests over `cbor_serde`: each call once, what a type may not send, options, values, byte strings,
+//! devices that fail, and streams of items.
 #![tactic(auto)]
 
 #[cfg(test)]
 mod arrays;
+#[cfg(test)]
+mod byte_strings;
 #[cfg(test)]
 mod calls;
 #[cfg(test)]
