@@ -54,7 +54,7 @@ module _ (levels : ℕ) where
   each_behind [] more each = each
   each_behind (r ∷ items) more each = each_behind items more each.1
 
-  each_joined : (items more : List Raw) → AllByRecursion (IsAcceptableWithin levels) items → AllByRecursion (IsAcceptableWithin levels) more → AllByRecursion (IsAcceptableWithin levels) (items ++ more)
+  pub each_joined : (items more : List Raw) → AllByRecursion (IsAcceptableWithin levels) items → AllByRecursion (IsAcceptableWithin levels) more → AllByRecursion (IsAcceptableWithin levels) (items ++ more)
   each_joined [] more each others = others
   each_joined (r ∷ items) more each others = (each.0, each_joined items more each.1 others)
 

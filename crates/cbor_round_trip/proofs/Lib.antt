@@ -8,6 +8,8 @@ pub mod CanonicalValues
 pub mod Contents
 pub mod ItemLists
 pub mod CutOff
+pub mod Sequences
+pub mod Filled
 pub mod StreamedItems
 pub mod Said
 pub mod facts

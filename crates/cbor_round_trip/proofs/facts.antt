@@ -4,3 +4,5 @@ pub mod Values
 pub mod Items
 pub mod Streams
 pub mod Said
+pub mod Sequences
+pub mod Filled

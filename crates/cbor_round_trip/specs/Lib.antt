@@ -13,6 +13,8 @@ pub mod Enums
 pub mod TypeLaws
 pub mod PartsLaws
 pub mod CutOff
+pub mod Sequences
+pub mod Filled
 pub mod StreamedItems
 pub mod Nesting
 pub mod Said

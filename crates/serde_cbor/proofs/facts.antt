@@ -10,3 +10,5 @@ pub mod Documents
 pub mod Items
 pub mod Said
 pub mod Canonical
+pub mod Sequences
+pub mod Filled

@@ -118,6 +118,8 @@ pub use Rattle.cbor_round_trip.specs.TypeLaws
 pub use Rattle.cbor_round_trip.specs.Keyed
 pub use Rattle.cbor_round_trip.specs.Lists
 pub use Rattle.cbor_round_trip.specs.CutOff
+pub use Rattle.cbor_round_trip.specs.Sequences
+pub use Rattle.cbor_round_trip.specs.Filled
 pub use Rattle.cbor_round_trip.specs.StreamedItems
 pub use Rattle.cbor_round_trip.specs.Nesting
 pub use Rattle.cbor_round_trip.specs.Said
