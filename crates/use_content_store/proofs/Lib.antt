@@ -1,5 +1,2 @@
-mod Entries
+mod Keeping
 mod Law
-mod Reading
-mod Records
-mod Stores

@@ -1,9 +1,8 @@
 //! A store of values by their contents: each stands under the hash of its canonical encoding.
 
-ghost use Rattle.std.specs.Prelude.{◌≡◌, ◌⊎◌, ◌↔◌, ℕ, List, Some, None, is_some};
-ghost use Rattle.std.specs.Prelude.{if◌then◌else◌, IfErr, IfOk, IsTrue, MatchOption, OnErr, OnOk};
-ghost use Rattle.std.specs.String.{string_bytes};
-ghost use Rattle.std.specs.Str.{bytes_eq};
+ghost use Rattle.std.specs.Prelude.{◌≡◌, ◌⊎◌, ◌↔◌, ℕ, List, Some, None};
+ghost use Rattle.std.specs.Prelude.{IfErr, IfOk, IsTrue, MatchOption, OnErr, OnOk};
+ghost use Rattle.std.specs.Io.KnownBytes.{Appends};
 ghost use Rattle.serde_cbor.specs.Allowed.{limits_of};
 ghost use Rattle.serde_cbor.specs.Canonical.{canon};
 ghost use Rattle.serde_cbor.specs.Document.{document_of, IsStorableDocument};
@@ -12,19 +11,21 @@ ghost use Rattle.serde_cbor.specs.FirstRefusal.{ReportsFirst};
 ghost use Rattle.serde_cbor.specs.Laws.{SpellsValue};
 ghost use Rattle.serde_cbor.specs.Plain.{Val};
 ghost use Rattle.serde_cbor.specs.View.{view};
+ghost use Rattle.serde_cbor.specs.Write.{AppendsBeginning};
 ghost use Rattle.serde_cbor.specs.Written.{IsNotWritten};
-ghost use Rattle.use_content_store.specs.Store.{address, at, Holds, HoldsTheSame, Puts};
+ghost use Rattle.use_content_store.specs.Store.{address, at, Holds, HoldsTheSame, Puts, written};
 
 use serde_cbor::error::Result;
+use serde_cbor::write::Write;
 use serde_cbor::{Value, from_slice, to_vec};
 use sha2::{Digest, Sha256};
-use std::alloc::{AllocError, Global};
+use std::alloc::Global;
 use std::collections::BTreeMap;
 
-/// Values, each under its address: the SHA-256 of its canonical encoding, in hexadecimal.
+/// Values, each under its address: the SHA-256 of its canonical encoding.
 #[derive(Debug, Drop)]
 pub struct Store {
-    entries: BTreeMap<String, Vec<u8>>,
+    entries: BTreeMap<[u8; 32], Vec<u8>>,
 }
 
 /// What came of [`Store::put`].
@@ -39,31 +40,10 @@ pub enum Put {
 impl Store {
     /// A store that holds nothing.
     pub fn new(alloc: Global) -> Store
-        ensures { (place : List ℕ) → at result place ≡ None }
+        ensures { (hash : List ℕ) → at result hash ≡ None }
     {
-        Store {
-            entries: BTreeMap::new(alloc),
-        }
-    }
-
-    /// Puts a value into the store, if it doesn't hold it.
-    ///
-    /// It refuses what `to_vec` refuses.
-    pub fn put(&mut self, alloc: Global, value: &Value) -> Result<Put>
-        ensures ok { IfOk result (Puts self.old (view value.now) self.new) }
-        ensures err { OnErr result (HoldsTheSame self.old self.new) }
-        ensures refused { IfErr result
-            (IsNotWritten (IsStorableDocument (document_of (view value.now)))) }
-    {
-        let (place, bytes) = entry_of(alloc, value)?;
-        if self.has(place.as_str(), &bytes) {
-            return Ok(Put::Stored);
-        }
-        if self.is_taken(place.as_str()) {
-            return Ok(Put::Collision);
-        }
-        self.add(place, bytes)?;
-        Ok(Put::Stored)
+        let entries = BTreeMap::new(alloc);
+        Store { entries }
     }
 
     /// The value that the bytes encode, in whichever encoding, if the store holds it.
@@ -77,54 +57,65 @@ impl Store {
             (λ e. IsOutOfMemory e ⊎ ReportsFirst (limits_of None) bytes.now e) }
     {
         let value: Value = from_slice(alloc, bytes)?;
-        let (place, bytes) = entry_of(alloc, &value)?;
-        if self.has(place.as_str(), &bytes) {
-            Ok(Some(value))
-        } else {
-            Ok(None)
+        let (hash, bytes) = entry_of(alloc, &value)?;
+        if !self.has(&hash, &bytes) {
+            return Ok(None);
         }
+        Ok(Some(value))
     }
 
-    // Whether these bytes stand at the address.
-    pub(crate) fn has(&self, place: &str, bytes: &[u8]) -> bool
-        ensures { IsTrue result ↔ (at self.now place.now ≡ Some bytes.now) }
+    /// Puts a value into the store; where it wasn't there, its canonical encoding is written to the
+    /// log first, by one call.
+    ///
+    /// It refuses what `to_vec` refuses, and what the log refuses. After an error the store holds
+    /// what it held; some or all of the encoding may have been written.
+    pub fn put<W: Write>(&mut self, alloc: Global, log: &mut W, value: Value) -> Result<Put>
+        ensures ok { IfOk result (Puts self.old (view value) self.new) }
+        ensures wrote { OnOk result (Appends (W.written log.old) (W.written log.new)
+            (written (at self.old (address (view value))) (view value))) }
+        ensures err { OnErr result (HoldsTheSame self.old self.new) }
+        ensures part { OnErr result
+            (AppendsBeginning (canon (view value)) (W.written log.old) (W.written log.new)) }
+        ensures refused { IfErr result (λ e. W.refuses log.new e
+            ⊎ IsNotWritten (IsStorableDocument (document_of (view value))) e) }
     {
-        match self.entries.get(place) {
+        let (hash, bytes) = entry_of(alloc, &value)?;
+        if self.has(&hash, &bytes) {
+            return Ok(Put::Stored);
+        }
+        if !self.is_free(&hash) {
+            return Ok(Put::Collision);
+        }
+        log.write_all(&bytes)?;
+        self.entries.insert(hash, bytes)?;
+        Ok(Put::Stored)
+    }
+
+    // Whether these bytes stand under the hash.
+    fn has(&self, hash: &[u8; 32], bytes: &[u8]) -> bool
+        ensures { IsTrue result ↔ (at self.now hash.now ≡ Some bytes.now) }
+    {
+        match self.entries.get(hash) {
             Some(stored) => stored.as_slice() == bytes,
             None => false,
         }
     }
 
-    // Whether any bytes do.
-    pub(crate) fn is_taken(&self, place: &str) -> bool
-        ensures { result ≡ is_some (at self.now place.now) }
+    // Whether none do.
+    fn is_free(&self, hash: &[u8; 32]) -> bool
+        ensures { IsTrue result ↔ (at self.now hash.now ≡ None) }
     {
-        self.entries.contains_key(place)
-    }
-
-    // Puts bytes at an address.
-    pub(crate) fn add(
-        &mut self,
-        place: String,
-        bytes: Vec<u8>,
-    ) -> std::result::Result<(), AllocError>
-        ensures ok { OnOk result ((q : List ℕ) → at self.new q
-            ≡ (if bytes_eq (string_bytes place) q then Some bytes.items else at self.old q)) }
-        ensures err { OnErr result ((q : List ℕ) → at self.new q ≡ at self.old q) }
-    {
-        self.entries.insert(place, bytes)?;
-        Ok(())
+        self.entries.get(hash).is_none()
     }
 }
 
 // The address of a value, and its canonical encoding.
-pub(crate) fn entry_of(alloc: Global, value: &Value) -> Result<(String, Vec<u8>)>
-    ensures place { IfOk result (λ entry. string_bytes entry.0 ≡ address (canon (view value.now))) }
+fn entry_of(alloc: Global, value: &Value) -> Result<([u8; 32], Vec<u8>)>
+    ensures hash { IfOk result (λ entry. entry.0 ≡ address (view value.now)) }
     ensures bytes { IfOk result (λ entry. entry.1.items ≡ canon (view value.now)) }
     ensures refused { IfErr result
         (IsNotWritten (IsStorableDocument (document_of (view value.now)))) }
 {
     let bytes = to_vec(alloc, value)?;
-    let place = hex::encode(alloc, Sha256::digest(&bytes))?;
-    Ok((place, bytes))
+    Ok((Sha256::digest(&bytes), bytes))
 }
