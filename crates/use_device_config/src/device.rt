@@ -32,14 +32,13 @@ impl Device {
     pub fn new(alloc: Global) -> Device
         ensures { IsFactorySetting result.config }
     {
-        Device {
-            config: Config {
-                mode: Mode::Idle,
-                channels: Vec::new(alloc),
-                name: None,
-                verbose: false,
-            },
-        }
+        let config = Config {
+            mode: Mode::Idle,
+            channels: Vec::new(alloc),
+            name: None,
+            verbose: false,
+        };
+        Device { config }
     }
 
     /// Takes the configuration that the bytes say. Refused, the device keeps the one that it has.
