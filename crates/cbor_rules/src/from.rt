@@ -36,7 +36,9 @@ use std::alloc::Global;
 /// let numbers: [u8; 2] = from_slice_with(alloc, &[0x82, 0x01, 0x02], Rules::DETERMINISTIC)?;
 /// assert_eq!(rt; numbers, [1, 2]);
 /// let bytes = &[0x81, 0x18, 0x17];
-/// let Err(Refusal::Departs(departure)) = from_slice_with::<Value>(alloc, bytes, Rules::CTAP2) else {
+/// let Err(Refusal::Departs(departure)) =
+///     from_slice_with::<Value>(alloc, bytes, Rules::CTAP2)
+/// else {
 ///     return Err(Fail::from("18 17 is not the shortest"));
 /// };
 /// assert_eq!(rt; departure, Departure { rule: Rule::ShortestHeads, offset: 3 });

@@ -7,8 +7,8 @@
 //! sign or to hash, and [`from_slice_canonical`] accepts canonical encodings alone. Values compare
 //! as the bytes of their canonical encodings do, and a map lists its keys in that order.
 //! [`to_vec_deterministic`] and [`to_vec_length_first`] write the forms that RFC 8949 names, in
-//! which floats are at their shortest, and [`to_vec_dcbor`] dCBOR, in which floats that are integers
-//! are these.
+//! which floats are at their shortest, and [`to_vec_dcbor`] dCBOR, in which floats that are
+//! integers are these.
 //!
 //! - [`de`], [`stream`], [`strict`]: reading; [`ser`]: writing
 //! - [`rules`]: reading by rules of your own, each a switch, or by the form that a name stands for

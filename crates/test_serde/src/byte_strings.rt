@@ -16,8 +16,8 @@ struct Parcel {
 }
 
 // {"key": h'01020304', "hash": h'0102', "weight": 1.5, "rest": [h'']}, by RFC 7049, Appendix A.
-const PARCEL: &[u8] =
-    b"\xa4\x63key\x44\x01\x02\x03\x04\x64hash\x42\x01\x02\x66weight\xfb\x3f\xf8\0\0\0\0\0\0\x64rest\x81\x40";
+const PARCEL: &[u8] = b"\xa4\x63key\x44\x01\x02\x03\x04\x64hash\x42\x01\x02\
+      \x66weight\xfb\x3f\xf8\0\0\0\0\0\0\x64rest\x81\x40";
 
 #[test]
 fn are_fields(rt: HostRuntime) -> Done {

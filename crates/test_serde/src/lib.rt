@@ -1,5 +1,5 @@
-//! Tests over `cbor_serde`: each call once, what a type may not send, options, values, byte strings,
-//! devices that fail, and streams of items.
+//! Tests over `cbor_serde`: each call once, what a type may not send, options, values, byte
+//! strings, devices that fail, and streams of items.
 #![tactic(auto)]
 
 #[cfg(test)]
