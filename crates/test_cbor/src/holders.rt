@@ -10,9 +10,9 @@ fn a_box_is_what_it_holds(rt: HostRuntime) -> Done {
     let alloc = rt.alloc();
     let number: Box<u8> = from_slice(alloc, b"\x18\x2a")?;
     assert!(&rt; *number == 42);
-    assert!(&rt; to_vec(alloc, &number)?.as_slice() == b"\x18\x2a");
+    assert!(&rt; to_vec(alloc, &number)?.as_slice() == b"\x18\x2a".as_slice());
     let texts: Vec<Box<String>> = from_reader(alloc, b"\x81\x62hi".as_slice())?;
-    assert!(&rt; to_vec(alloc, &texts)?.as_slice() == b"\x81\x62hi");
+    assert!(&rt; to_vec(alloc, &texts)?.as_slice() == b"\x81\x62hi".as_slice());
     is_refused(
         from_slice::<Box<u8>>(alloc, b"\xf4"),
         "invalid type: expected an integer",
@@ -23,11 +23,13 @@ fn a_box_is_what_it_holds(rt: HostRuntime) -> Done {
 fn what_is_lent_is_written_as_what_it_is(rt: HostRuntime) -> Done {
     let alloc = rt.alloc();
     let number = 500u16;
-    assert!(&rt; to_vec(alloc, &&number)?.as_slice() == b"\x19\x01\xf4");
-    assert!(&rt; to_vec(alloc, &Items(&[1, number]))?.as_slice() == b"\x82\x01\x19\x01\xf4");
-    assert!(&rt; to_vec(alloc, &Items::<u8>(&[]))?.as_slice() == b"\x80");
+    assert!(&rt; to_vec(alloc, &&number)?.as_slice() == b"\x19\x01\xf4".as_slice());
+    assert!(&rt;
+        to_vec(alloc, &Items(&[1, number]))?.as_slice() == b"\x82\x01\x19\x01\xf4".as_slice()
+    );
+    assert!(&rt; to_vec(alloc, &Items::<u8>(&[]))?.as_slice() == b"\x80".as_slice());
     let small = SmallStruct { spam: 17, eggs: 42 };
     let bytes = to_vec(alloc, &(&small, 1u8))?;
-    assert!(&rt; bytes.as_slice() == b"\x82\xa2\x64spam\x11\x64eggs\x18\x2a\x01");
+    assert!(&rt; bytes.as_slice() == b"\x82\xa2\x64spam\x11\x64eggs\x18\x2a\x01".as_slice());
     Ok(())
 }
