@@ -1,6 +1,6 @@
 //! A float as a field of a type that derives.
 
-ghost use Rattle.std.specs.Prelude.{IfOk};
+ghost use Rattle.std.specs.Prelude.{◌≡◌, IfOk};
 ghost use Rattle.serde.specs.Event.{double};
 ghost use Rattle.serde.specs.Steps.{Gives};
 ghost use Rattle.cbor_value.specs.Floats.{number_of};
@@ -47,7 +47,8 @@ impl<'de> Deserialize<'de> for FloatItem {
     ) -> Result<FloatItem, F::Error>
         ensures { IfOk result (λ item. Gives F.gives from.old (double (number_of item.0)) from.new) }
     {
-        Ok(FloatItem(Float::from(from.f64()?)))
+        let number = from.f64()?;
+        Ok(of_double(number))
     }
 }
 
@@ -58,6 +59,14 @@ impl DeserializeOwned for FloatItem {
     ) -> Result<FloatItem, F::Error>
         ensures { IfOk result (λ item. Gives F.gives from.old (double (number_of item.0)) from.new) }
     {
-        Ok(FloatItem(Float::from(from.f64()?)))
+        let number = from.f64()?;
+        Ok(of_double(number))
     }
+}
+
+#[tactic(auto, using(crate::proofs::Numbers::double_again))]
+fn of_double(number: f64) -> FloatItem
+    ensures { number_of result.0 ≡ number }
+{
+    FloatItem(Float::from(number))
 }
