@@ -1,7 +1,23 @@
-use Rattle.std.proofs.Common.{refl}
+use Rattle.std.proofs.Common.{◌≡◌, ◌∙◌, ap, refl, subst, sym}
+use Rattle.serde_cbor.specs.Acceptable.{max_depth}
+use Rattle.serde_cbor.specs.Formats.{all_formats}
+use Rattle.serde_cbor.specs.Source.{start_of_reader}
+use Rattle.serde_cbor.specs.Sources.{input_of_reader}
+use Rattle.serde_cbor.specs.Streams.{Stream, begun, standing}
 use Rattle.use_messages.proofs.Requests.{reads, reply}
-use Rattle.use_messages.proofs.Serving.{all_but_one, broken, one_more}
+use Rattle.use_messages.proofs.Serving.{HasServed, all_but_one, broken, none_served, one_more}
 use Rattle.use_messages.proofs.service.serve.Goals as goal
+
+pub requests-init : goal.requests-init
+requests-init g c =
+    let is : standing (input_of_reader g.R.Read.remaining) c.into_iter-stream.result ≡ begun (start_of_reader (g.R.Read.remaining c.args.reader)) max_depth all_formats =
+    c.into_iter-stream.ensures.begun ∙ rw (c.from_reader.ensures.input, c.from_reader.ensures.levels, c.from_reader.ensures.formats) refl in
+    let w = g.W.Write.written c.args.writer.now in
+    record {
+      served = λ bytes gave. subst (λ s. HasServed reads reply bytes s w w) (sym is)
+          (none_served reads reply bytes (g.R.Read.remaining c.args.reader) w gave);
+      at = sym (ap (λ (s : Stream). s.input.offset) is);
+    }
 
 pub returns-in-Err : goal.returns-in-Err
 returns-in-Err g c bytes gave =
