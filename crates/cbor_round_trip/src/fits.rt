@@ -56,6 +56,11 @@ pub fn encodings_fit<T>(a: &Encoded<T>)
     ensures of_encoded { ⟦<Encoded<T> as RoundTrip>⟧.law.fits a.now }
 {}
 
+/// A box is whose content is.
+pub fn boxes_fit<T: RoundTrip>(a: &Box<T>)
+    ensures of_box { T.law.fits a.now.value → ⟦<Box<T> as RoundTrip>⟧.law.fits a.now }
+{}
+
 /// A value within a tag that it has to have is where it is by itself.
 pub fn required_fit<T: RoundTrip, const N: u64>(a: &Required<N, T>)
     ensures of_required { T.law.fits a.now.0 → ⟦<Required<N, T> as RoundTrip>⟧.law.fits a.now }

@@ -18,8 +18,8 @@ mod tuples;
 mod types;
 
 pub use fits::{
-    encodings_fit, integers_fit, items_fit, naturals_fit, ordered_values_fit, required_fit,
-    scalars_fit, strings_fit, tuples_fit,
+    boxes_fit, encodings_fit, integers_fit, items_fit, naturals_fit, ordered_values_fit,
+    required_fit, scalars_fit, strings_fit, tuples_fit,
 };
 pub use laws::{one_value, write_and_read, written_reads_back_as};
 pub use parts::{
