@@ -6,6 +6,7 @@
     bench/check.py NAME -- --only PATH      rattle's own flags stand behind `--`
     bench/check.py --edits NAME [EDIT..]    tries the crate's edits that must fail, or these of them
     bench/check.py --apply                  names each edit, of any crate, whose text isn't found
+    bench/check.py --take FOLDER            keeps what the gate has built in another clone, of equal text
 
 A library that is proved is kept by its text and that of those below it, under `.git/kept` of the first
 work tree; what was proved of a crate between two runs is kept in its `out`. JOBS is the number of
@@ -103,7 +104,8 @@ class Kept:
         (pathlib.Path(crate.folder) / "out").mkdir(exist_ok=True)
         words = crate.words([*flags, *self.jobs], tests=tests, keeps=False)
         kept = ["--incremental", "out/kept-tests" if tests else "out/kept"]
-        return self.rattle(crate, ["check", *words, *kept, "--progress", "--empty-contracts"])
+        empty = [] if "--start" in flags else ["--empty-contracts"]
+        return self.rattle(crate, ["check", *words, *kept, "--progress", *empty])
 
     def try_edits(self, crate, names):
         """Tries edits in turn, each over what the checks before it proved, and says of each how it went."""
@@ -117,6 +119,18 @@ class Kept:
             status = status if refused else 1
             print(said, flush=True)
         return status
+
+    def take(self, clone):
+        """Keeps the libraries that the gate has built in another clone, where these have the same text."""
+        theirs = {it.name: it for it in self.rt.rtlib.crates_below(clone)}
+        for crate in theirs.values():
+            self.rt.read_files(crate)
+        for name, crate in theirs.items():
+            kept = self.store / f"{name}-{crate.stamp()[:24]}"
+            if pathlib.Path(crate.rlib).is_dir() and not kept.is_dir():
+                shutil.copytree(pathlib.Path(crate.rlib).parent, kept, symlinks=True)
+                print(f"took {name}")
+        return 0
 
     def apply_edits(self):
         """Names the edits that can't be made."""
@@ -139,6 +153,8 @@ def main(words):
     kept = Kept(from_kit(), str(top), os.environ.get("JOBS", "1"))
     if asked == {"--apply"} and not names:
         return kept.apply_edits()
+    if asked == {"--take"} and len(names) == 1:
+        return kept.take(names[0])
     known = names[:1] if asked == {"--edits"} else names
     if not known or asked - {"--test", "--edits"} or any(it not in kept.crates for it in known):
         print(__doc__)

@@ -22,12 +22,12 @@ use Rattle.cbor_model.proofs.facts.Maps.{put_all-ascending}
 use Rattle.cbor_rules.specs.Features.{Feature, number, simple_item, float_bits, key, Place, head_end, features, all_features, pair_features}
 use Rattle.cbor_rules.specs.Presets as presets
 use Rattle.cbor_rules.specs.Presets.{IsCanonicalOf, WrittenIsAccepted, AcceptedIsWritten}
-use Rattle.cbor_rules.specs.Rules.{only, floor, is_less, key_cmp, breaks, Keeps}
+use Rattle.cbor_rules.specs.Rules.{latest, only, floor, is_less, is_unique, key_cmp, breaks, Keeps}
 use Rattle.cbor_rules.specs.declared.settings.Rules.{Rules}
 use Rattle.cbor_rules.specs.declared.settings.KeyOrder.{KeyOrder}
 use Rattle.cbor_rules.specs.declared.settings.KeyOrder.TheVariants.{Bytewise}
 use Rattle.cbor_rules.specs.declared.settings.Rule.{Rule}
-use Rattle.cbor_rules.specs.declared.settings.Rule.TheVariants.{ShortestHeads, DefiniteLengths, PlainKeys, AscendingKeys, ReducedNumbers, ShortestFloats, OneNan, NoUndefined, NoTags}
+use Rattle.cbor_rules.specs.declared.settings.Rule.TheVariants.{ShortestHeads, DefiniteLengths, PlainKeys, AscendingKeys, UniqueKeys, ReducedNumbers, ShortestFloats, OneNan, NoUndefined, NoTags}
 
 -- ---- places
 
@@ -214,19 +214,19 @@ mutual
       let more = all_features (at + length (spell r)) rs in
       ap₂ raw.raw (clean at r fits.0 (first_fine rules (features at r) more fine)) (all_clean (at + length (spell r)) rs fits.1 (rest_fine rules (features at r) more fine))
 
-  pairs_clean : (at : ℕ) (before : List ℕ) (ps : RawPairs) → ArePairsWellFormed ps → AreFine rules (pair_features at before ps) → AreCanonical before ps
-  pairs_clean at before no_raw_pairs fits fine = record { same = refl; firsts = tt; ascend = tt }
-  pairs_clean at before (raw_pair k v ps) fits fine =
+  pairs_clean : (at : ℕ) (earlier : List (List ℕ)) (ps : RawPairs) → ArePairsWellFormed ps → AreFine rules (pair_features at earlier ps) → AreCanonical (latest earlier) ps
+  pairs_clean at earlier no_raw_pairs fits fine = record { same = refl; firsts = tt; ascend = tt }
+  pairs_clean at earlier (raw_pair k v ps) fits fine =
       let here = at + length (spell k) in
       let there = at + length (spell k) + length (spell v) in
-      let others = pair_features there (spell k) ps in
+      let others = pair_features there (spell k ∷ earlier) ps in
       let a = rest_fine rules (features at k) _ fine in
       let is = clean at k fits.0 (first_fine rules (features at k) _ fine) in
-      let later = pairs_clean there (spell k) ps fits.2 (rest_fine rules (features here v) others a.1) in
+      let later = pairs_clean there (spell k ∷ earlier) ps fits.2 (rest_fine rules (features here v) others a.1) in
       record {
         same = ap (λ (l : Raw). raw_pair l v ps) is
             ∙ ap₂ (λ (w : Raw) (qs : RawPairs). raw_pair (canonical (value k)) w qs) (clean here v fits.1 (first_fine rules (features here v) others a.1)) later.same;
-        firsts = less (lex before (spell k)) (a.0 AscendingKeys);
+        firsts = less (lex (latest earlier) (spell k)) (a.0 AscendingKeys);
         ascend = (below_first k ps fits.0 is fits.2 later.same later.firsts, later.ascend);
       }
 
@@ -242,6 +242,7 @@ number_fine order major n NoTags = and_false (major == 6)
 number_fine order major n DefiniteLengths = refl
 number_fine order major n PlainKeys = refl
 number_fine order major n AscendingKeys = refl
+number_fine order major n UniqueKeys = refl
 number_fine order major n ReducedNumbers = refl
 number_fine order major n ShortestFloats = refl
 number_fine order major n OneNan = refl
@@ -253,21 +254,23 @@ float_fine order w bits NoTags = refl
 float_fine order w bits DefiniteLengths = refl
 float_fine order w bits PlainKeys = refl
 float_fine order w bits AscendingKeys = refl
+float_fine order w bits UniqueKeys = refl
 float_fine order w bits ReducedNumbers = refl
 float_fine order w bits ShortestFloats = refl
 float_fine order w bits OneNan = refl
 float_fine order w bits NoUndefined = refl
 
-pub key_fine : (order : KeyOrder) (before k : List ℕ) → key_cmp order before k ≡ Less → IsFine (by_keys order) (key before k)
-key_fine order before k is ShortestHeads = refl
-key_fine order before k is NoTags = refl
-key_fine order before k is DefiniteLengths = refl
-key_fine order before k is PlainKeys = refl
-key_fine order before k is AscendingKeys = ap (λ (o : Ordering). not (is_less o)) is
-key_fine order before k is ReducedNumbers = refl
-key_fine order before k is ShortestFloats = refl
-key_fine order before k is OneNan = refl
-key_fine order before k is NoUndefined = refl
+pub key_fine : (order : KeyOrder) (earlier : List (List ℕ)) (k : List ℕ) → is_unique order ≡ false → key_cmp order (latest earlier) k ≡ Less → IsFine (by_keys order) (key earlier k)
+key_fine order earlier k apart is ShortestHeads = refl
+key_fine order earlier k apart is NoTags = refl
+key_fine order earlier k apart is DefiniteLengths = refl
+key_fine order earlier k apart is PlainKeys = refl
+key_fine order earlier k apart is UniqueKeys = rw apart refl
+key_fine order earlier k apart is AscendingKeys = ap (λ (o : Ordering). not (is_less o)) is
+key_fine order earlier k apart is ReducedNumbers = refl
+key_fine order earlier k apart is ShortestFloats = refl
+key_fine order earlier k apart is OneNan = refl
+key_fine order earlier k apart is NoUndefined = refl
 
 -- of what is written for a value
 abbrev pub IsWritten : raw.Simple → Type 0
@@ -280,6 +283,7 @@ simple_fine order s is NoTags = refl
 simple_fine order s is DefiniteLengths = refl
 simple_fine order s is PlainKeys = refl
 simple_fine order s is AscendingKeys = refl
+simple_fine order s is UniqueKeys = refl
 simple_fine order s is ReducedNumbers = refl
 simple_fine order s is ShortestFloats = refl
 simple_fine order s is OneNan = refl
@@ -347,17 +351,17 @@ mutual
       both_fine rules (features at (canonical v)) (all_features more (canonical_all vs))
       (canonical_fine at v stored.0 held.0 ordered.0) (all_canonical_fine more vs stored.1 held.1 ordered.1)
 
-  pairs_canonical_fine : (at : ℕ) (before : List ℕ) (ps : Pairs) → ArePairsStorable ps → ArePairsInRange ps → ArePairsOrdered ps → FirstAbove before (canonical_pairs ps) → AreFine rules (pair_features at before (canonical_pairs ps))
-  pairs_canonical_fine at before no_pairs stored held ordered above = tt
-  pairs_canonical_fine at before (pair k v ps) stored held ordered above =
+  pairs_canonical_fine : (at : ℕ) (earlier : List (List ℕ)) (ps : Pairs) → ArePairsStorable ps → ArePairsInRange ps → ArePairsOrdered ps → FirstAbove (latest earlier) (canonical_pairs ps) → AreFine rules (pair_features at earlier (canonical_pairs ps))
+  pairs_canonical_fine at earlier no_pairs stored held ordered above = tt
+  pairs_canonical_fine at earlier (pair k v ps) stored held ordered above =
       let name = spell (canonical k) in
       let here = at + length name in
       let there = at + length name + length (spell (canonical v)) in
       both_fine rules (features at (canonical k)) _ (canonical_fine at k stored.0 held.0 ordered.1) (
-        key_fine Bytewise before name above,
-        both_fine rules (features here (canonical v)) (pair_features there name (canonical_pairs ps))
+        key_fine Bytewise earlier name refl above,
+        both_fine rules (features here (canonical v)) (pair_features there (name ∷ earlier) (canonical_pairs ps))
             (canonical_fine here v stored.1 held.1 ordered.2)
-            (pairs_canonical_fine there name ps stored.2 held.2 ordered.3 (next_above k ps stored.0 held.0 stored.2 held.2 ordered.0)),
+            (pairs_canonical_fine there (name ∷ earlier) ps stored.2 held.2 ordered.3 (next_above k ps stored.0 held.0 stored.2 held.2 ordered.0)),
       )
 
 -- ---- the laws

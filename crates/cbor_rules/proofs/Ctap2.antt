@@ -1,6 +1,6 @@
 -- An item keeps CTAP2's rules exactly where it is the canonical item of a value without tags and
 -- without arrays or maps as keys.
-use Rattle.std.proofs.Common.{pos, negsuc, ◌≡◌, ◌∙◌, ◌⊎◌, inl, inr, sym, ap, ap₂, subst, refl, ℕ, ◌+◌, ◌^◌, ◌<◌, List, [], ◌++◌, length, nat_cmp, Bool, false, Ordering, Less, Equal, Greater, arith}
+use Rattle.std.proofs.Common.{◌∷◌, pos, negsuc, ◌≡◌, ◌∙◌, ◌⊎◌, inl, inr, sym, ap, ap₂, subst, refl, ℕ, ◌+◌, ◌^◌, ◌<◌, List, [], ◌++◌, length, nat_cmp, Bool, false, Ordering, Less, Equal, Greater, arith}
 use Rattle.std.specs.Prelude.{not, ◌==◌, ◌&&◌, nat_lt}
 use Rattle.std.proofs.lemmas.Bool.{true≢false}
 use Rattle.std.specs.Ordering.{ordering_then, MatchOrdering}
@@ -20,10 +20,10 @@ use Rattle.cbor_forms.specs.LengthFirst.{by_length}
 use Rattle.cbor_rules.specs.Features.{Feature, number as number_of, simple_item, float_bits, key, head_end, features, all_features, pair_features}
 use Rattle.cbor_rules.specs.Presets as presets
 use Rattle.cbor_rules.specs.Presets.{defined, IsPlain, IsForCtap2, AreForCtap2, ArePairsForCtap2, IsCtap2Of, WrittenIsAccepted, AcceptedIsWritten}
-use Rattle.cbor_rules.specs.Rules.{only, breaks, is_compound, is_less, key_cmp, major}
+use Rattle.cbor_rules.specs.Rules.{latest, only, breaks, is_compound, is_less, key_cmp, major}
 use Rattle.cbor_rules.specs.declared.settings.Rules.{Rules}
 use Rattle.cbor_rules.specs.declared.settings.KeyOrder.TheVariants.{TypeFirst}
-use Rattle.cbor_rules.specs.declared.settings.Rule.TheVariants.{ShortestHeads, DefiniteLengths, PlainKeys, AscendingKeys, ReducedNumbers, ShortestFloats, OneNan, NoUndefined, NoTags}
+use Rattle.cbor_rules.specs.declared.settings.Rule.TheVariants.{ShortestHeads, DefiniteLengths, PlainKeys, AscendingKeys, UniqueKeys, ReducedNumbers, ShortestFloats, OneNan, NoUndefined, NoTags}
 use Rattle.cbor_rules.proofs.Canonical as canonical
 use Rattle.cbor_rules.proofs.Canonical.{IsFine, AreFine, kept_fine, fine_kept, first_fine, rest_fine, both_fine, and_false, less, first_above, clean, in_range}
 use Rattle.cbor_rules.proofs.Deterministic.{fine_too}
@@ -41,7 +41,9 @@ to_canonical f fine up ShortestHeads = fine ShortestHeads
 to_canonical f fine up DefiniteLengths = fine DefiniteLengths
 to_canonical f fine up NoUndefined = fine NoUndefined
 to_canonical f fine up AscendingKeys = up
-to_canonical (key before k) fine up PlainKeys = refl
+to_canonical (key earlier k) fine up UniqueKeys = refl
+to_canonical _ fine up UniqueKeys = refl
+to_canonical (key earlier k) fine up PlainKeys = refl
 to_canonical _ fine up PlainKeys = refl
 to_canonical (number_of m w n) fine up ReducedNumbers = refl
 to_canonical (float_bits w bits) fine up ReducedNumbers = refl
@@ -60,6 +62,8 @@ from_canonical f fine untagged plain up NoUndefined = fine NoUndefined
 from_canonical f fine untagged plain up NoTags = untagged
 from_canonical f fine untagged plain up PlainKeys = plain
 from_canonical f fine untagged plain up AscendingKeys = up
+from_canonical (key earlier k) fine untagged plain up UniqueKeys = refl
+from_canonical _ fine untagged plain up UniqueKeys = refl
 from_canonical (number_of m w n) fine untagged plain up ReducedNumbers = refl
 from_canonical (float_bits w bits) fine untagged plain up ReducedNumbers = refl
 from_canonical _ fine untagged plain up ReducedNumbers = refl
@@ -178,12 +182,12 @@ mutual
       (bytewise at r fits.0 (first_fine all (features at r) more fine))
       (all_bytewise (at + length (spell r)) rs fits.1 (rest_fine all (features at r) more fine))
 
-  pairs_bytewise : (at : ℕ) (before : List ℕ) (ps : RawPairs) → ArePairsWellFormed ps → AreFine all (pair_features at before ps) → Before before → AreFine presets.canonical (pair_features at before ps)
-  pairs_bytewise at before no_raw_pairs fits fine earlier = tt
-  pairs_bytewise at before (raw_pair k v ps) fits fine earlier =
+  pairs_bytewise : (at : ℕ) (earlier : List (List ℕ)) (ps : RawPairs) → ArePairsWellFormed ps → AreFine all (pair_features at earlier ps) → Before (latest earlier) → AreFine presets.canonical (pair_features at earlier ps)
+  pairs_bytewise at earlier no_raw_pairs fits fine by_last = tt
+  pairs_bytewise at earlier (raw_pair k v ps) fits fine by_last =
       let here = at + length (spell k) in
       let there = at + length (spell k) + length (spell v) in
-      let others = pair_features there (spell k) ps in
+      let others = pair_features there (spell k ∷ earlier) ps in
       let a = rest_fine all (features at k) _ fine in
       let name = bytewise at k fits.0 (first_fine all (features at k) _ fine) in
       let is : k ≡ canonical (value k) = clean at k fits.0 name in
@@ -191,15 +195,15 @@ mutual
       let plain = is_plain (value k) (ap is_compound (sym same) ∙ a.0 PlainKeys) in
       let stored = value_is_storable k fits.0 in
       let held = in_range (value k) (subst IsWellFormed is fits.0) in
-      let up : lex before (spell k) ≡ Less = elim earlier [
+      let up : lex (latest earlier) (spell k) ≡ Less = elim by_last [
         | inl none ↦ ap (λ (b : List ℕ). lex b (spell k)) none ∙ first_above k
-        | inr e ↦ sym (same_order before (spell k) (value k) plain stored held same e) ∙ less (key_cmp TypeFirst before (spell k)) (a.0 AscendingKeys)
+        | inr e ↦ sym (same_order (latest earlier) (spell k) (value k) plain stored held same e) ∙ less (key_cmp TypeFirst (latest earlier) (spell k)) (a.0 AscendingKeys)
       ] in
       both_fine presets.canonical (features at k) _ name (
-        to_canonical (key before (spell k)) a.0 (ap (λ (o : Ordering). not (is_less o)) up),
+        to_canonical (key earlier (spell k)) a.0 (ap (λ (o : Ordering). not (is_less o)) up),
         both_fine presets.canonical (features here v) others
             (bytewise here v fits.1 (first_fine all (features here v) others a.1))
-            (pairs_bytewise there (spell k) ps fits.2 (rest_fine all (features here v) others a.1)
+            (pairs_bytewise there (spell k ∷ earlier) ps fits.2 (rest_fine all (features here v) others a.1)
             (inr (record { of = value k; plain = plain; stored = stored; held = held; same = same }))),
       )
 
@@ -225,17 +229,17 @@ mutual
         all_for_ctap2 (at + length (spell (canonical v))) vs (rest_fine all (features at (canonical v)) more fine),
       )
 
-  pairs_for_ctap2 : (at : ℕ) (before : List ℕ) (ps : Pairs) → AreFine all (pair_features at before (canonical_pairs ps)) → ArePairsForCtap2 ps
-  pairs_for_ctap2 at before no_pairs fine = tt
-  pairs_for_ctap2 at before (pair k v ps) fine =
+  pairs_for_ctap2 : (at : ℕ) (earlier : List (List ℕ)) (ps : Pairs) → AreFine all (pair_features at earlier (canonical_pairs ps)) → ArePairsForCtap2 ps
+  pairs_for_ctap2 at earlier no_pairs fine = tt
+  pairs_for_ctap2 at earlier (pair k v ps) fine =
       let name = spell (canonical k) in
       let here = at + length name in
       let there = at + length name + length (spell (canonical v)) in
-      let others = pair_features there name (canonical_pairs ps) in
+      let others = pair_features there (name ∷ earlier) (canonical_pairs ps) in
       let a = rest_fine all (features at (canonical k)) _ fine in (
         is_plain k (a.0 PlainKeys),
         for_ctap2 here v (first_fine all (features here (canonical v)) others a.1),
-        pairs_for_ctap2 there name ps (rest_fine all (features here (canonical v)) others a.1),
+        pairs_for_ctap2 there (name ∷ earlier) ps (rest_fine all (features here (canonical v)) others a.1),
       )
 
 -- ---- and what is written of such a value keeps CTAP2's
@@ -268,24 +272,24 @@ mutual
       (typed at v for.0 stored.0 held.0 (first_fine presets.canonical (features at (canonical v)) more fine))
       (all_typed here vs for.1 stored.1 held.1 (rest_fine presets.canonical (features at (canonical v)) more fine))
 
-  pairs_typed : (at : ℕ) (before : List ℕ) (ps : Pairs) → ArePairsForCtap2 ps → ArePairsStorable ps → ArePairsInRange ps → AreFine presets.canonical (pair_features at before (canonical_pairs ps)) → Before before → AreFine all (pair_features at before (canonical_pairs ps))
-  pairs_typed at before no_pairs for stored held fine earlier = tt
-  pairs_typed at before (pair k v ps) for stored held fine earlier =
+  pairs_typed : (at : ℕ) (earlier : List (List ℕ)) (ps : Pairs) → ArePairsForCtap2 ps → ArePairsStorable ps → ArePairsInRange ps → AreFine presets.canonical (pair_features at earlier (canonical_pairs ps)) → Before (latest earlier) → AreFine all (pair_features at earlier (canonical_pairs ps))
+  pairs_typed at earlier no_pairs for stored held fine by_last = tt
+  pairs_typed at earlier (pair k v ps) for stored held fine by_last =
       let name = spell (canonical k) in
       let here = at + length name in
       let there = at + length name + length (spell (canonical v)) in
-      let others = pair_features there name (canonical_pairs ps) in
+      let others = pair_features there (name ∷ earlier) (canonical_pairs ps) in
       let a = rest_fine presets.canonical (features at (canonical k)) _ fine in
-      let up : key_cmp TypeFirst before name ≡ Less = elim earlier [
+      let up : key_cmp TypeFirst (latest earlier) name ≡ Less = elim by_last [
         | inl none ↦ ap (λ (b : List ℕ). key_cmp TypeFirst b name) none ∙ first_typed (canonical k)
-        | inr e ↦ same_order before name k for.0 stored.0 held.0 refl e ∙ less (lex before name) (a.0 AscendingKeys)
+        | inr e ↦ same_order (latest earlier) name k for.0 stored.0 held.0 refl e ∙ less (lex (latest earlier) name) (a.0 AscendingKeys)
       ] in
       both_fine all (features at (canonical k)) _
       (typed at k (plain_for k for.0) stored.0 held.0 (first_fine presets.canonical (features at (canonical k)) _ fine)) (
-        from_canonical (key before name) a.0 refl (plain_fine k for.0 stored.0 held.0) (ap (λ (o : Ordering). not (is_less o)) up),
+        from_canonical (key earlier name) a.0 refl (plain_fine k for.0 stored.0 held.0) (ap (λ (o : Ordering). not (is_less o)) up),
         both_fine all (features here (canonical v)) others
             (typed here v for.1 stored.1 held.1 (first_fine presets.canonical (features here (canonical v)) others a.1))
-            (pairs_typed there name ps for.2 stored.2 held.2 (rest_fine presets.canonical (features here (canonical v)) others a.1)
+            (pairs_typed there (name ∷ earlier) ps for.2 stored.2 held.2 (rest_fine presets.canonical (features here (canonical v)) others a.1)
             (inr (record { of = k; plain = for.0; stored = stored.0; held = held.0; same = refl }))),
       )
 
@@ -319,6 +323,7 @@ not_defined f fine ShortestHeads = fine ShortestHeads
 not_defined f fine DefiniteLengths = fine DefiniteLengths
 not_defined f fine PlainKeys = fine PlainKeys
 not_defined f fine AscendingKeys = fine AscendingKeys
+not_defined f fine UniqueKeys = fine UniqueKeys
 not_defined f fine ReducedNumbers = fine ReducedNumbers
 not_defined f fine ShortestFloats = fine ShortestFloats
 not_defined f fine OneNan = fine OneNan

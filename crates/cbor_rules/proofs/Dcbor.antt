@@ -1,6 +1,6 @@
 -- An item keeps dCBOR's rules exactly where it is the deterministic item of a value whose numbers are
 -- reduced.
-use Rattle.std.proofs.Common.{◌≡◌, ◌∙◌, ℕ, ◌+◌, ◌^◌, true, false, pos, negsuc, ℤ, List, []}
+use Rattle.std.proofs.Common.{◌∷◌, ◌≡◌, ◌∙◌, ℕ, ◌+◌, ◌^◌, true, false, pos, negsuc, ℤ, List, []}
 use Rattle.std.proofs.Common.{length, Ordering, Less, Equal, Greater, refl, sym, ap, subst}
 use Rattle.std.proofs.lemmas.Bool.{leb-false, lt-leb}
 use Rattle.std.specs.Prelude.{◌==◌, nat_lt, is_some, Option, Some, None}
@@ -33,7 +33,7 @@ use Rattle.cbor_rules.specs.Presets.{HasShortestFloats, HaveShortestFloats, Pair
 use Rattle.cbor_rules.specs.Rules.{only, breaks, floor}
 use Rattle.cbor_rules.specs.declared.settings.Rules.{Rules}
 use Rattle.cbor_rules.specs.declared.settings.Rule.TheVariants.{ShortestHeads, DefiniteLengths}
-use Rattle.cbor_rules.specs.declared.settings.Rule.TheVariants.{PlainKeys, AscendingKeys, OneNan}
+use Rattle.cbor_rules.specs.declared.settings.Rule.TheVariants.{PlainKeys, AscendingKeys, UniqueKeys, OneNan}
 use Rattle.cbor_rules.specs.declared.settings.Rule.TheVariants.{ReducedNumbers, ShortestFloats}
 use Rattle.cbor_rules.specs.declared.settings.Rule.TheVariants.{NoUndefined, NoTags}
 use Rattle.cbor_rules.proofs.Canonical as canonical
@@ -58,6 +58,7 @@ is_deterministic f fine ShortestHeads = fine ShortestHeads
 is_deterministic f fine DefiniteLengths = fine DefiniteLengths
 is_deterministic f fine PlainKeys = fine PlainKeys
 is_deterministic f fine AscendingKeys = fine AscendingKeys
+is_deterministic f fine UniqueKeys = fine UniqueKeys
 is_deterministic (number_of m w n) fine ReducedNumbers = refl
 is_deterministic (float_bits w bits) fine ReducedNumbers = refl
 is_deterministic _ fine ReducedNumbers = refl
@@ -71,6 +72,7 @@ is_dcbor f one other ShortestHeads = one ShortestHeads
 is_dcbor f one other DefiniteLengths = one DefiniteLengths
 is_dcbor f one other PlainKeys = one PlainKeys
 is_dcbor f one other AscendingKeys = one AscendingKeys
+is_dcbor f one other UniqueKeys = one UniqueKeys
 is_dcbor f one other ReducedNumbers = other ReducedNumbers
 is_dcbor f one other ShortestFloats = one ShortestFloats
 is_dcbor f one other OneNan = one OneNan
@@ -86,10 +88,12 @@ reduced_fine (number_of m w n) one NoTags = and_false (m == 6)
 reduced_fine _ one NoTags = refl
 reduced_fine indefinite_length one DefiniteLengths = refl
 reduced_fine _ one DefiniteLengths = refl
-reduced_fine (key before k) one PlainKeys = refl
+reduced_fine (key earlier k) one PlainKeys = refl
 reduced_fine _ one PlainKeys = refl
-reduced_fine (key before k) one AscendingKeys = refl
+reduced_fine (key earlier k) one AscendingKeys = refl
 reduced_fine _ one AscendingKeys = refl
+reduced_fine (key earlier k) one UniqueKeys = refl
+reduced_fine _ one UniqueKeys = refl
 reduced_fine (float_bits w bits) one ShortestFloats = refl
 reduced_fine _ one ShortestFloats = refl
 reduced_fine (float_bits w bits) one OneNan = refl
@@ -158,16 +162,16 @@ mutual
             (rest_fine reduced_only (features at r) (all_features more rs) fine),
       )
 
-  pairs_kept_numbers : (at : ℕ) (before : List ℕ) (ps : RawPairs) (onto : Pairs)
-      → AreFine reduced_only (pair_features at before ps) → PairsHaveReducedNumbers onto
+  pairs_kept_numbers : (at : ℕ) (earlier : List (List ℕ)) (ps : RawPairs) (onto : Pairs)
+      → AreFine reduced_only (pair_features at earlier ps) → PairsHaveReducedNumbers onto
       → PairsHaveReducedNumbers (pairs ps onto)
-  pairs_kept_numbers at before no_raw_pairs onto fine all = all
-  pairs_kept_numbers at before (raw_pair k v ps) onto fine all =
+  pairs_kept_numbers at earlier no_raw_pairs onto fine all = all
+  pairs_kept_numbers at earlier (raw_pair k v ps) onto fine all =
       let here = at + length (spell k) in
       let there = at + length (spell k) + length (spell v) in
-      let more = pair_features there (spell k) ps in
+      let more = pair_features there (spell k ∷ earlier) ps in
       let a = rest_fine reduced_only (features at k) _ fine in
-      pairs_kept_numbers there (spell k) ps (put (value k) (value v) onto)
+      pairs_kept_numbers there (spell k ∷ earlier) ps (put (value k) (value v) onto)
       (rest_fine reduced_only (features here v) more a.1)
       (put_reduced (value k) (value v) onto
       (kept_numbers at k (first_fine reduced_only (features at k) _ fine))
@@ -199,18 +203,18 @@ mutual
       both_fine reduced_only (features at (canonical v)) (all_features more (canonical_all vs))
       (numbers_kept at v is.0) (all_numbers_kept more vs is.1)
 
-  pairs_numbers_kept : (at : ℕ) (before : List ℕ) (ps : Pairs) → PairsHaveReducedNumbers ps
-      → AreFine reduced_only (pair_features at before (canonical_pairs ps))
-  pairs_numbers_kept at before no_pairs is = tt
-  pairs_numbers_kept at before (pair k v ps) is =
+  pairs_numbers_kept : (at : ℕ) (earlier : List (List ℕ)) (ps : Pairs) → PairsHaveReducedNumbers ps
+      → AreFine reduced_only (pair_features at earlier (canonical_pairs ps))
+  pairs_numbers_kept at earlier no_pairs is = tt
+  pairs_numbers_kept at earlier (pair k v ps) is =
       let name = spell (canonical k) in
       let here = at + length name in
       let there = at + length name + length (spell (canonical v)) in
       both_fine reduced_only (features at (canonical k)) _ (numbers_kept at k is.0) (
-        reduced_fine (key before name) refl,
+        reduced_fine (key earlier name) refl,
         both_fine reduced_only (features here (canonical v))
-            (pair_features there name (canonical_pairs ps)) (numbers_kept here v is.1)
-            (pairs_numbers_kept there name ps is.2),
+            (pair_features there (name ∷ earlier) (canonical_pairs ps)) (numbers_kept here v is.1)
+            (pairs_numbers_kept there (name ∷ earlier) ps is.2),
       )
 
 -- ---- what is reduced

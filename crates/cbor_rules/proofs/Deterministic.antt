@@ -24,7 +24,7 @@ use Rattle.cbor_rules.specs.Rules.{only, breaks, floor}
 use Rattle.cbor_rules.specs.declared.settings.Rules.{Rules}
 use Rattle.cbor_rules.specs.declared.settings.KeyOrder.{KeyOrder}
 use Rattle.cbor_rules.specs.declared.settings.KeyOrder.TheVariants.{Bytewise}
-use Rattle.cbor_rules.specs.declared.settings.Rule.TheVariants.{ShortestHeads, DefiniteLengths, PlainKeys, AscendingKeys, ReducedNumbers, ShortestFloats, OneNan, NoUndefined, NoTags}
+use Rattle.cbor_rules.specs.declared.settings.Rule.TheVariants.{ShortestHeads, DefiniteLengths, PlainKeys, AscendingKeys, UniqueKeys, ReducedNumbers, ShortestFloats, OneNan, NoUndefined, NoTags}
 use Rattle.cbor_rules.proofs.Canonical as canonical
 use Rattle.cbor_rules.proofs.Canonical.{IsFine, AreFine, by_keys, kept_fine, fine_kept, first_fine, rest_fine, both_fine, and_false}
 use Rattle.cbor_rules.proofs.Floats.{shortest_is, shortest_nan, kept_shortest, shortest_narrow, shortest_one}
@@ -54,6 +54,7 @@ is_canonical order f fine ShortestHeads = fine ShortestHeads
 is_canonical order f fine DefiniteLengths = fine DefiniteLengths
 is_canonical order f fine PlainKeys = fine PlainKeys
 is_canonical order f fine AscendingKeys = fine AscendingKeys
+is_canonical order f fine UniqueKeys = fine UniqueKeys
 is_canonical order f fine NoUndefined = fine NoUndefined
 is_canonical order f fine NoTags = fine NoTags
 is_canonical order (number_of m w n) fine ReducedNumbers = refl
@@ -69,6 +70,7 @@ is_all order f one floats ShortestHeads = one ShortestHeads
 is_all order f one floats DefiniteLengths = one DefiniteLengths
 is_all order f one floats PlainKeys = one PlainKeys
 is_all order f one floats AscendingKeys = one AscendingKeys
+is_all order f one floats UniqueKeys = one UniqueKeys
 is_all order f one floats ReducedNumbers = floats ReducedNumbers
 is_all order f one floats ShortestFloats = floats ShortestFloats
 is_all order f one floats OneNan = floats OneNan
@@ -88,10 +90,12 @@ floats_fine (number_of m w n) short one NoTags = and_false (m == 6)
 floats_fine _ short one NoTags = refl
 floats_fine indefinite_length short one DefiniteLengths = refl
 floats_fine _ short one DefiniteLengths = refl
-floats_fine (key before k) short one PlainKeys = refl
+floats_fine (key earlier k) short one PlainKeys = refl
 floats_fine _ short one PlainKeys = refl
-floats_fine (key before k) short one AscendingKeys = refl
+floats_fine (key earlier k) short one AscendingKeys = refl
 floats_fine _ short one AscendingKeys = refl
+floats_fine (key earlier k) short one UniqueKeys = refl
+floats_fine _ short one UniqueKeys = refl
 floats_fine (simple_item undefined_item) short one NoUndefined = refl
 floats_fine (simple_item _) short one NoUndefined = refl
 floats_fine _ short one NoUndefined = refl
@@ -105,6 +109,7 @@ not_defined order f fine ShortestHeads = fine ShortestHeads
 not_defined order f fine DefiniteLengths = fine DefiniteLengths
 not_defined order f fine PlainKeys = fine PlainKeys
 not_defined order f fine AscendingKeys = fine AscendingKeys
+not_defined order f fine UniqueKeys = fine UniqueKeys
 not_defined order f fine ReducedNumbers = fine ReducedNumbers
 not_defined order f fine ShortestFloats = fine ShortestFloats
 not_defined order f fine OneNan = fine OneNan
@@ -123,7 +128,7 @@ other_fine (float_bits w bits) other = absurd (other tt)
 other_fine (number_of m w n) other = floats_fine (number_of m w n) refl refl
 other_fine indefinite_length other = floats_fine indefinite_length refl refl
 other_fine (simple_item s) other = floats_fine (simple_item s) refl refl
-other_fine (key before k) other = floats_fine (key before k) refl refl
+other_fine (key earlier k) other = floats_fine (key earlier k) refl refl
 
 -- ---- what keeps the rules about floats
 
@@ -166,14 +171,14 @@ mutual
       let more = at + length (spell r) in
       (kept_floats at r fits.0 (first_fine floats_only (features at r) (all_features more rs) fine), all_kept_floats more rs fits.1 (rest_fine floats_only (features at r) (all_features more rs) fine))
 
-  pairs_kept_floats : (at : ℕ) (before : List ℕ) (ps : RawPairs) (onto : Pairs) → ArePairsWellFormed ps → AreFine floats_only (pair_features at before ps) → PairsHaveShortestFloats onto → PairsHaveShortestFloats (pairs ps onto)
-  pairs_kept_floats at before no_raw_pairs onto fits fine all = all
-  pairs_kept_floats at before (raw_pair k v ps) onto fits fine all =
+  pairs_kept_floats : (at : ℕ) (earlier : List (List ℕ)) (ps : RawPairs) (onto : Pairs) → ArePairsWellFormed ps → AreFine floats_only (pair_features at earlier ps) → PairsHaveShortestFloats onto → PairsHaveShortestFloats (pairs ps onto)
+  pairs_kept_floats at earlier no_raw_pairs onto fits fine all = all
+  pairs_kept_floats at earlier (raw_pair k v ps) onto fits fine all =
       let here = at + length (spell k) in
       let there = at + length (spell k) + length (spell v) in
-      let others = pair_features there (spell k) ps in
+      let others = pair_features there (spell k ∷ earlier) ps in
       let a = rest_fine floats_only (features at k) _ fine in
-      pairs_kept_floats there (spell k) ps (put (value k) (value v) onto) fits.2 (rest_fine floats_only (features here v) others a.1)
+      pairs_kept_floats there (spell k ∷ earlier) ps (put (value k) (value v) onto) fits.2 (rest_fine floats_only (features here v) others a.1)
       (put_short (value k) (value v) onto
       (kept_floats at k fits.0 (first_fine floats_only (features at k) _ fine))
       (kept_floats here v fits.1 (first_fine floats_only (features here v) others a.1)) all)
@@ -192,6 +197,7 @@ module _ (apart : ApartFloats) where
   float_fine w bits is DefiniteLengths = refl
   float_fine w bits is PlainKeys = refl
   float_fine w bits is AscendingKeys = refl
+  float_fine w bits is UniqueKeys = refl
   float_fine w bits is NoUndefined = refl
   float_fine w bits is NoTags = refl
 
@@ -216,15 +222,15 @@ module _ (apart : ApartFloats) where
         let more = at + length (spell (canonical v)) in
         both_fine floats_only (features at (canonical v)) (all_features more (canonical_all vs)) (floats_kept at v short.0) (all_floats_kept more vs short.1)
 
-    pairs_floats_kept : (at : ℕ) (before : List ℕ) (ps : Pairs) → PairsHaveShortestFloats ps → AreFine floats_only (pair_features at before (canonical_pairs ps))
-    pairs_floats_kept at before no_pairs short = tt
-    pairs_floats_kept at before (pair k v ps) short =
+    pairs_floats_kept : (at : ℕ) (earlier : List (List ℕ)) (ps : Pairs) → PairsHaveShortestFloats ps → AreFine floats_only (pair_features at earlier (canonical_pairs ps))
+    pairs_floats_kept at earlier no_pairs short = tt
+    pairs_floats_kept at earlier (pair k v ps) short =
         let name = spell (canonical k) in
         let here = at + length name in
         let there = at + length name + length (spell (canonical v)) in
         both_fine floats_only (features at (canonical k)) _ (floats_kept at k short.0) (
-          other_fine (key before name) (λ is. is),
-          both_fine floats_only (features here (canonical v)) (pair_features there name (canonical_pairs ps)) (floats_kept here v short.1) (pairs_floats_kept there name ps short.2),
+          other_fine (key earlier name) (λ is. is),
+          both_fine floats_only (features here (canonical v)) (pair_features there (name ∷ earlier) (canonical_pairs ps)) (floats_kept here v short.1) (pairs_floats_kept there (name ∷ earlier) ps short.2),
         )
 
 -- ---- what is shortened

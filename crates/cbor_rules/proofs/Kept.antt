@@ -10,7 +10,7 @@ use Rattle.cbor_model.specs.Spelling.{spell, spell_all, spell_pairs, chunk, brea
 use Rattle.cbor_rules.specs.Features.{Feature, Place, features, all_features, pair_features, chunk_places}
 use Rattle.cbor_rules.specs.Rules.{Terms, breaks, first_broken, all_rules, broken, departure_or, departure_in, first_departure, IsFirst, NoneWhereKept, FirstIsLeast}
 use Rattle.cbor_rules.specs.declared.settings.Rule.{Rule}
-use Rattle.cbor_rules.specs.declared.settings.Rule.TheVariants.{ShortestHeads, DefiniteLengths, PlainKeys, AscendingKeys, ReducedNumbers, ShortestFloats, OneNan, NoUndefined, NoTags}
+use Rattle.cbor_rules.specs.declared.settings.Rule.TheVariants.{ShortestHeads, DefiniteLengths, PlainKeys, AscendingKeys, UniqueKeys, ReducedNumbers, ShortestFloats, OneNan, NoUndefined, NoTags}
 use Rattle.cbor_rules.specs.declared.answers.Departure.{Departure}
 
 -- ---- one feature
@@ -46,14 +46,15 @@ module _ (terms : Terms) (f : Feature) where
   pick kept DefiniteLengths = kept.1.0
   pick kept PlainKeys = kept.1.1.0
   pick kept AscendingKeys = kept.1.1.1.0
-  pick kept ReducedNumbers = kept.1.1.1.1.0
-  pick kept ShortestFloats = kept.1.1.1.1.1.0
-  pick kept OneNan = kept.1.1.1.1.1.1.0
-  pick kept NoUndefined = kept.1.1.1.1.1.1.1.0
-  pick kept NoTags = kept.1.1.1.1.1.1.1.1.0
+  pick kept UniqueKeys = kept.1.1.1.1.0
+  pick kept ReducedNumbers = kept.1.1.1.1.1.0
+  pick kept ShortestFloats = kept.1.1.1.1.1.1.0
+  pick kept OneNan = kept.1.1.1.1.1.1.1.0
+  pick kept NoUndefined = kept.1.1.1.1.1.1.1.1.0
+  pick kept NoTags = kept.1.1.1.1.1.1.1.1.1.0
 
   gather : ((rule : Rule) → breaks terms rule f ≡ false) → AreKept all_rules
-  gather each = (each ShortestHeads, (each DefiniteLengths, (each PlainKeys, (each AscendingKeys, (each ReducedNumbers, (each ShortestFloats, (each OneNan, (each NoUndefined, (each NoTags, tt)))))))))
+  gather each = (each ShortestHeads, (each DefiniteLengths, (each PlainKeys, (each AscendingKeys, (each UniqueKeys, (each ReducedNumbers, (each ShortestFloats, (each OneNan, (each NoUndefined, (each NoTags, tt))))))))))
 
 -- ---- places
 
@@ -136,15 +137,15 @@ mutual
       climbs_then at mid high (features at r) (all_features mid rs) (climb r at mid (omega arith))
       (all_climb rs mid high (omega (arith, le, length-append (spell r) (spell_all rs))))
 
-  pairs_climb : (ps : RawPairs) (before : List ℕ) (at high : ℕ) → at + length (spell_pairs ps) ≤ high → Climbs at high (pair_features at before ps)
-  pairs_climb no_raw_pairs before at high le = omega (arith, le)
-  pairs_climb (raw_pair k v ps) before at high le =
+  pairs_climb : (ps : RawPairs) (earlier : List (List ℕ)) (at high : ℕ) → at + length (spell_pairs ps) ≤ high → Climbs at high (pair_features at earlier ps)
+  pairs_climb no_raw_pairs earlier at high le = omega (arith, le)
+  pairs_climb (raw_pair k v ps) earlier at high le =
       let here = at + length (spell k) in
       let there = at + length (spell k) + length (spell v) in
       climbs_then at here high (features at k) _ (climb k at here (omega arith)) (
         omega arith,
-        climbs_then here there high (features here v) (pair_features there (spell k) ps) (climb v here there (omega arith))
-            (pairs_climb ps (spell k) there high (omega (arith, le, length-append (spell k) (spell v ++ spell_pairs ps), length-append (spell v) (spell_pairs ps)))),
+        climbs_then here there high (features here v) (pair_features there (spell k ∷ earlier) ps) (climb v here there (omega arith))
+            (pairs_climb ps (spell k ∷ earlier) there high (omega (arith, le, length-append (spell k) (spell v ++ spell_pairs ps), length-append (spell v) (spell_pairs ps)))),
       )
 
 -- ---- the first

@@ -1,5 +1,5 @@
 -- An item keeps the rules of the length-first form exactly where it is encoded as its value is so.
-use Rattle.std.proofs.Common.{◌≡◌, ◌∙◌, sym, ap, ap₂, subst, refl, arith, ℕ, ◌+◌, List, [], ◌++◌, length, Less}
+use Rattle.std.proofs.Common.{◌∷◌, ◌≡◌, ◌∙◌, sym, ap, ap₂, subst, refl, arith, ℕ, ◌+◌, List, [], ◌++◌, length, Less}
 use Rattle.cbor_model.specs.Canonical.{KeysAscend, IsBelow, canonical, canon}
 use Rattle.cbor_model.specs.FiniteMap.{put_all}
 use Rattle.cbor_model.specs.Head.{head, least, short}
@@ -16,6 +16,7 @@ use Rattle.cbor_rules.specs.Presets as presets
 use Rattle.cbor_rules.specs.Presets.{AcceptedIsWritten, IsLengthFirstOf, HasShortestFloats, defined}
 use Rattle.cbor_rules.specs.declared.settings.Rules.{Rules}
 use Rattle.cbor_rules.specs.declared.settings.KeyOrder.TheVariants.{LengthFirst}
+use Rattle.cbor_rules.specs.Rules.{latest}
 use Rattle.cbor_rules.specs.declared.settings.Rule.TheVariants.{ShortestHeads, DefiniteLengths, AscendingKeys, NoUndefined}
 use Rattle.cbor_rules.proofs.Canonical.{AreFine, by_keys, kept_fine, first_fine, rest_fine, shortest, less, listed, pairs-listed}
 use Rattle.cbor_rules.proofs.Deterministic.{floats_only, with_keys, fine_too, is_canonical, is_floats, kept_floats}
@@ -108,19 +109,19 @@ mutual
       let more = all_features (at + length (spell r)) rs in
       ap₂ (λ (a b : List ℕ). a ++ b) (clean at r fits.0 (first_fine rules (features at r) more fine)) (all_clean (at + length (spell r)) rs fits.1 (rest_fine rules (features at r) more fine))
 
-  pairs_clean : (at : ℕ) (before : List ℕ) (ps : RawPairs) → ArePairsWellFormed ps → AreFine rules (pair_features at before ps) → AreSorted before ps
-  pairs_clean at before no_raw_pairs fits fine = record { same = refl; firsts = tt; ascend = tt }
-  pairs_clean at before (raw_pair k v ps) fits fine =
+  pairs_clean : (at : ℕ) (earlier : List (List ℕ)) (ps : RawPairs) → ArePairsWellFormed ps → AreFine rules (pair_features at earlier ps) → AreSorted (latest earlier) ps
+  pairs_clean at earlier no_raw_pairs fits fine = record { same = refl; firsts = tt; ascend = tt }
+  pairs_clean at earlier (raw_pair k v ps) fits fine =
       let here = at + length (spell k) in
       let there = at + length (spell k) + length (spell v) in
-      let others = pair_features there (spell k) ps in
+      let others = pair_features there (spell k ∷ earlier) ps in
       let a = rest_fine rules (features at k) _ fine in
       let name = clean at k fits.0 (first_fine rules (features at k) _ fine) in
       let content = clean here v fits.1 (first_fine rules (features here v) others a.1) in
-      let later = pairs_clean there (spell k) ps fits.2 (rest_fine rules (features here v) others a.1) in
+      let later = pairs_clean there (spell k ∷ earlier) ps fits.2 (rest_fine rules (features here v) others a.1) in
       record {
         same = ap₂ (λ (x y : List ℕ). pair (bytes x) (bytes y) (strings ps)) name content ∙ ap (pair (bytes (length_first (value k))) (bytes (length_first (value v)))) later.same;
-        firsts = less (by_length before (spell k)) (a.0 AscendingKeys);
+        firsts = less (by_length (latest earlier) (spell k)) (a.0 AscendingKeys);
         ascend = (below_first k ps later.firsts, later.ascend);
       }
 

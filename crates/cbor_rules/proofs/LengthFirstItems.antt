@@ -1,5 +1,5 @@
 -- The item that is written with shorter keys first keeps the rules of that form.
-use Rattle.std.proofs.Common.{pos, negsuc, ◌≡◌, ◌∙◌, sym, ap, ap₂, subst, refl, arith, ℕ, ◌+◌, ◌^◌, ◌<◌, ◌≤◌, List, [], ◌++◌, length, Ordering, Less, Equal, Greater}
+use Rattle.std.proofs.Common.{◌∷◌, pos, negsuc, ◌≡◌, ◌∙◌, sym, ap, ap₂, subst, refl, arith, ℕ, ◌+◌, ◌^◌, ◌<◌, ◌≤◌, List, [], ◌++◌, length, Ordering, Less, Equal, Greater}
 use Rattle.std.specs.Prelude.{IsUtf8}
 use Rattle.std.specs.Cmp.{nat_cmp_is}
 use Rattle.std.specs.Ordering.{ordering_then}
@@ -23,7 +23,7 @@ use Rattle.cbor_forms.specs.LengthFirst.{length_first, all_length_first, encoded
 use Rattle.cbor_rules.specs.Features.{number, simple_item, float_bits, key, head_end, features, all_features, pair_features}
 use Rattle.cbor_rules.specs.Presets as presets
 use Rattle.cbor_rules.specs.Presets.{WrittenIsAccepted, IsLengthFirstOf, HasShortestFloats, HaveShortestFloats, PairsHaveShortestFloats, defined}
-use Rattle.cbor_rules.specs.Rules.{Keeps, only}
+use Rattle.cbor_rules.specs.Rules.{latest, Keeps, only}
 use Rattle.cbor_rules.specs.declared.settings.Rules.{Rules}
 use Rattle.cbor_rules.specs.declared.settings.KeyOrder.TheVariants.{LengthFirst}
 use Rattle.cbor_rules.proofs.Canonical.{IsFine, AreFine, one_item, kept_fine, fine_kept, both_fine, number_fine, key_fine, simple_fine, bool_written, limit-le}
@@ -44,8 +44,8 @@ a_number major n = is_all LengthFirst (number major (least n) n) (number_fine Le
 a_simple : (s : raw.Simple) → canonical.IsWritten s → IsFine all (simple_item s)
 a_simple s is = is_all LengthFirst (simple_item s) (simple_fine LengthFirst s is) (other_fine (simple_item s) (λ is. is))
 
-a_key : (before k : List ℕ) → by_length before k ≡ Less → IsFine all (key before k)
-a_key before k is = is_all LengthFirst (key before k) (key_fine LengthFirst before k is) (other_fine (key before k) (λ is. is))
+a_key : (earlier : List (List ℕ)) (k : List ℕ) → by_length (latest earlier) k ≡ Less → IsFine all (key earlier k)
+a_key earlier k is = is_all LengthFirst (key earlier k) (key_fine LengthFirst earlier k refl is) (other_fine (key earlier k) (λ is. is))
 
 -- ---- encodings of items
 
@@ -107,15 +107,15 @@ next_after : (k : Raw) (ps : RawPairs) → IsBelow (bytes (spell k)) (strings ps
 next_after k no_raw_pairs below = tt
 next_after k (raw_pair l v ps) below = sym (as_byte_strings (spell k) (spell l)) ∙ below
 
-pairs_fine : (ps : RawPairs) (at : ℕ) (before : List ℕ) → EachFine ps → KeysAscend (strings ps) → FirstAfter before ps → AreFine all (pair_features at before ps)
+pairs_fine : (ps : RawPairs) (at : ℕ) (earlier : List (List ℕ)) → EachFine ps → KeysAscend (strings ps) → FirstAfter (latest earlier) ps → AreFine all (pair_features at earlier ps)
 unfolding features
-pairs_fine no_raw_pairs at before fine ascend after = tt
-pairs_fine (raw_pair k v ps) at before fine ascend after =
+pairs_fine no_raw_pairs at earlier fine ascend after = tt
+pairs_fine (raw_pair k v ps) at earlier fine ascend after =
     let here = at + length (spell k) in
     let there = at + length (spell k) + length (spell v) in
     both_fine all (features at k) _ (fine.0 at) (
-      a_key before (spell k) after,
-      both_fine all (features here v) (pair_features there (spell k) ps) (fine.1 here) (pairs_fine ps there (spell k) fine.2 ascend.1 (next_after k ps ascend.0)),
+      a_key earlier (spell k) after,
+      both_fine all (features here v) (pair_features there (spell k ∷ earlier) ps) (fine.1 here) (pairs_fine ps there (spell k ∷ earlier) fine.2 ascend.1 (next_after k ps ascend.0)),
     )
 
 some : (r : Raw) → 0 < length (spell r)

@@ -4,6 +4,8 @@ pub mod Told
 pub mod Kept
 pub mod Reading
 pub mod Canonical
+pub mod CanonicalKeys
+pub mod Unique
 pub mod Floats
 pub mod Deterministic
 pub mod Puts

@@ -7,22 +7,22 @@ use Rattle.cbor_rules.specs.Rules.{Terms, departure_in, first_departure}
 use Rattle.cbor_rules.specs.Features.{features}
 use Rattle.cbor_rules.specs.Walk as model
 use Rattle.cbor_rules.specs.Walk.{passed, departed, stopped}
-use Rattle.cbor_rules.specs.Walks.{walk_view, Walks}
+use Rattle.cbor_rules.specs.Walks.{walk_view, HadMemory, Walks}
 use Rattle.cbor_rules.specs.declared.settings.Rule.{Rule}
 use Rattle.cbor_rules.specs.declared.settings.Rule.TheVariants.{ShortestHeads}
 use Rattle.cbor_rules.specs.declared.answers.Departure.{Departure}
 use Rattle.cbor_rules.specs.declared.walk.Walk.{Walk}
-use Rattle.cbor_rules.specs.declared.walk.Walk.TheVariants.{Passed, Departed, Stopped}
+use Rattle.cbor_rules.specs.declared.walk.Walk.TheVariants.{Passed, Departed, Stopped, NoMemory}
 use Rattle.cbor_rules.proofs.Walked.{Answers, walked}
 
 -- of all of the bytes of an item
-pub answered : (terms : Terms) (bs : List ℕ) (r : Raw) (w : Walk) → IsWellFormed r → spell r ≡ bs → Walks bs (model.walk terms) w → Answers (length bs) [] (first_departure terms r) (walk_view bs w)
+pub answered : (terms : Terms) (bs : List ℕ) (r : Raw) (w : Walk) → IsWellFormed r → spell r ≡ bs → Walks bs (model.walk terms) w → HadMemory w → Answers (length bs) [] (first_departure terms r) (walk_view bs w)
 unfolding first_departure
-answered terms bs r w fits is walks =
+answered terms bs r w fits is walks had =
     let fuel = length bs + suc (suc (depth r)) in
     let whole : spell r ++ [] ≡ bs = append-nil (spell r) ∙ is in
     let reports = walked terms r fuel 0 [] (length bs) fits (omega arith) (omega (arith, ap length whole)) in
-    let walk_is : model.walk terms fuel (spell r ++ []) ≡ walk_view bs w = ap (model.walk terms fuel) whole ∙ walks fuel (omega arith) in
+    let walk_is : model.walk terms fuel (spell r ++ []) ≡ walk_view bs w = ap (model.walk terms fuel) whole ∙ walks had fuel (omega arith) in
     subst (Answers (length bs) [] (departure_in terms (features 0 r))) walk_is reports
 
 rule_of : model.Walk → Rule
@@ -49,3 +49,4 @@ untold total bs None w none answers = refl
 untold total bs (Some d) (Passed left) none answers = absurd (let is = answers.2 in cc)
 untold total bs (Some d) (Departed rule left) none answers = absurd (none rule left refl)
 untold total bs (Some d) Stopped none answers = absurd (let is = answers.2 in cc)
+untold total bs (Some d) NoMemory none answers = absurd (let is = answers.2 in cc)

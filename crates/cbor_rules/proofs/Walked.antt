@@ -145,20 +145,20 @@ module _ (terms : Terms) (p : List ℕ → Walk) where
   all_closed true zero rest closes = absurd (omega (arith, closes))
   all_closed true (suc m) rest closes = refl
 
-  pairs_closed : (is_open : Bool) (m : ℕ) (before rest : List ℕ) → Closes is_open m → pairs_walk terms p is_open m before (closing is_open rest) ≡ passed rest
+  pairs_closed : (is_open : Bool) (m : ℕ) (earlier : List (List ℕ)) (rest : List ℕ) → Closes is_open m → pairs_walk terms p is_open m earlier (closing is_open rest) ≡ passed rest
   unfolding pairs_walk
-  pairs_closed false zero before rest closes = refl
-  pairs_closed false (suc m) before rest closes = absurd (omega (arith, closes))
-  pairs_closed true zero before rest closes = absurd (omega (arith, closes))
-  pairs_closed true (suc m) before rest closes = refl
+  pairs_closed false zero earlier rest closes = refl
+  pairs_closed false (suc m) earlier rest closes = absurd (omega (arith, closes))
+  pairs_closed true zero earlier rest closes = absurd (omega (arith, closes))
+  pairs_closed true (suc m) earlier rest closes = refl
 
   all_next : (is_open : Bool) (m : ℕ) (bs : List ℕ) → is_break bs ≡ false → all_walk p is_open (suc m) bs ≡ and_then (p bs) (all_walk p is_open m)
   unfolding all_walk
   all_next is_open m bs none = rw (none, and_false is_open) refl
 
-  pairs_next : (is_open : Bool) (m : ℕ) (before bs : List ℕ) → is_break bs ≡ false → pairs_walk terms p is_open (suc m) before bs ≡ and_then (p bs) (λ at_value. let k = take (length bs - length at_value) bs in seen terms (key before k) (length at_value) (and_then (p at_value) (pairs_walk terms p is_open m k)))
+  pairs_next : (is_open : Bool) (m : ℕ) (earlier : List (List ℕ)) (bs : List ℕ) → is_break bs ≡ false → pairs_walk terms p is_open (suc m) earlier bs ≡ and_then (p bs) (λ at_value. let k = take (length bs - length at_value) bs in seen terms (key earlier k) (length at_value) (and_then (p at_value) (pairs_walk terms p is_open m (k ∷ earlier))))
   unfolding pairs_walk
-  pairs_next is_open m before bs none = rw (none, and_false is_open) refl
+  pairs_next is_open m earlier bs none = rw (none, and_false is_open) refl
 
 -- ---- the chunks of a string
 
@@ -337,12 +337,12 @@ mutual
       (walked terms r fuel at more total fits.0 (omega (arith, nests)) within)
       (all_walked terms rs is_open extra m fuel (at + length one) rest total fits.1 (omega (arith, nests)) closes (omega (arith, steps)) (behind_end at one more total within))))
 
-  pairs_walked : (terms : Terms) (ps : RawPairs) (before : List ℕ) (is_open : Bool) (extra m fuel at : ℕ) (rest : List ℕ) (total : ℕ) → ArePairsWellFormed ps → suc (depth_pairs ps) < fuel → Closes is_open extra → m ≡ pair_count ps + extra → at + length (spell_pairs ps ++ closing is_open rest) ≡ total → Reports terms total (pair_features at before ps) rest (pairs_walk terms (walk terms fuel) is_open m before (spell_pairs ps ++ closing is_open rest))
-  pairs_walked terms no_raw_pairs before is_open extra m fuel at rest total fits nests closes steps is =
+  pairs_walked : (terms : Terms) (ps : RawPairs) (earlier : List (List ℕ)) (is_open : Bool) (extra m fuel at : ℕ) (rest : List ℕ) (total : ℕ) → ArePairsWellFormed ps → suc (depth_pairs ps) < fuel → Closes is_open extra → m ≡ pair_count ps + extra → at + length (spell_pairs ps ++ closing is_open rest) ≡ total → Reports terms total (pair_features at earlier ps) rest (pairs_walk terms (walk terms fuel) is_open m earlier (spell_pairs ps ++ closing is_open rest))
+  pairs_walked terms no_raw_pairs earlier is_open extra m fuel at rest total fits nests closes steps is =
       let same : extra ≡ m = omega (arith, steps) in
-      pairs_closed terms (walk terms fuel) is_open m before rest (subst (Closes is_open) same closes)
-  pairs_walked terms (raw_pair k v ps) before is_open extra zero fuel at rest total fits nests closes steps is = absurd (omega (arith, steps))
-  pairs_walked terms (raw_pair k v ps) before is_open extra (suc m) fuel at rest total fits nests closes steps is =
+      pairs_closed terms (walk terms fuel) is_open m earlier rest (subst (Closes is_open) same closes)
+  pairs_walked terms (raw_pair k v ps) earlier is_open extra zero fuel at rest total fits nests closes steps is = absurd (omega (arith, steps))
+  pairs_walked terms (raw_pair k v ps) earlier is_open extra (suc m) fuel at rest total fits nests closes steps is =
       let p = walk terms fuel in
       let k_bytes = spell k in
       let one = spell v in
@@ -353,13 +353,13 @@ mutual
       let within : at + length (k_bytes ++ at_value) ≡ total = ap (λ (t : List ℕ). at + length t) (sym (pair_parts k_bytes one (spell_pairs ps) (closing is_open rest))) ∙ is in
       let within_value : here + length at_value ≡ total = behind_end at k_bytes at_value total within in
       let within_more : there + length more ≡ total = behind_end here one more total within_value in
-      let behind_key = place here (key before k_bytes) ∷ (features here v ++ pair_features there k_bytes ps) in
+      let behind_key = place here (key earlier k_bytes) ∷ (features here v ++ pair_features there (k_bytes ∷ earlier) ps) in
       rw (pair_parts k_bytes one (spell_pairs ps) (closing is_open rest))
-      (reports_same terms total (features at k ++ behind_key) rest _ _ (pairs_next terms p is_open m before (k_bytes ++ at_value) (no_break k at_value fits.0))
+      (reports_same terms total (features at k ++ behind_key) rest _ _ (pairs_next terms p is_open m earlier (k_bytes ++ at_value) (no_break k at_value fits.0))
       (reports_then terms total (features at k) behind_key at_value rest (p (k_bytes ++ at_value)) _
       (walked terms k fuel at at_value total fits.0 (omega (arith, nests)) within)
-      (subst (λ (t : List ℕ). Reports terms total behind_key rest (seen terms (key before t) (length at_value) (and_then (p at_value) (pairs_walk terms p is_open m t)))) (sym (key_taken k_bytes at_value))
-      (seen_reports terms total here (length at_value) (key before k_bytes) (features here v ++ pair_features there k_bytes ps) rest (and_then (p at_value) (pairs_walk terms p is_open m k_bytes)) within_value
-      (reports_then terms total (features here v) (pair_features there k_bytes ps) more rest (p at_value) (pairs_walk terms p is_open m k_bytes)
+      (subst (λ (t : List ℕ). Reports terms total behind_key rest (seen terms (key earlier t) (length at_value) (and_then (p at_value) (pairs_walk terms p is_open m (t ∷ earlier))))) (sym (key_taken k_bytes at_value))
+      (seen_reports terms total here (length at_value) (key earlier k_bytes) (features here v ++ pair_features there (k_bytes ∷ earlier) ps) rest (and_then (p at_value) (pairs_walk terms p is_open m (k_bytes ∷ earlier))) within_value
+      (reports_then terms total (features here v) (pair_features there (k_bytes ∷ earlier) ps) more rest (p at_value) (pairs_walk terms p is_open m (k_bytes ∷ earlier))
       (walked terms v fuel here more total fits.1 (omega (arith, nests)) within_value)
-      (pairs_walked terms ps k_bytes is_open extra m fuel there rest total fits.2 (omega (arith, nests)) closes (omega (arith, steps)) within_more))))))
+      (pairs_walked terms ps (k_bytes ∷ earlier) is_open extra m fuel there rest total fits.2 (omega (arith, nests)) closes (omega (arith, steps)) within_more))))))

@@ -13,8 +13,8 @@ use Rattle.cbor_rules.specs.declared.settings.Rules.{Rules}
 use Rattle.cbor_rules.specs.declared.settings.Rule.{Rule}
 use Rattle.cbor_rules.specs.declared.settings.Rule.TheVariants.{DefiniteLengths}
 use Rattle.cbor_rules.specs.declared.walk.Walk.{Walk}
-use Rattle.cbor_rules.specs.declared.walk.Walk.TheVariants.{Passed, Departed, Stopped}
-use Rattle.cbor_rules.specs.Walks.{last, walk_view, IsWithin, IsAfter}
+use Rattle.cbor_rules.specs.declared.walk.Walk.TheVariants.{Passed, Departed, Stopped, NoMemory}
+use Rattle.cbor_rules.specs.Walks.{last, walk_view, HadMemory, EndsForMemory, IsWithin, IsAfter}
 
 pub last_all : (bs : List ℕ) → bs ≡ last (length bs) bs
 last_all bs = let none : length bs - length bs ≡ 0 = omega arith in sym (ap (λ (n : ℕ). drop n bs) none)
@@ -32,11 +32,13 @@ pub view-last : (left : ℕ) (bs : List ℕ) (r : Walk) → left ≤ length bs �
 view-last left bs (Passed k) le few = ap model.passed (last-last k left bs (omega (arith, few, length-last left bs le)) le)
 view-last left bs (Departed rule k) le few = refl
 view-last left bs Stopped le few = refl
+view-last left bs NoMemory le few = refl
 
 pub within-last : (left : ℕ) (bs : List ℕ) (r : Walk) → left ≤ length bs → IsWithin (length (last left bs)) r → IsWithin (length bs) r
 within-last left bs (Passed k) le few = omega (arith, few, le, length-last left bs le)
 within-last left bs (Departed rule k) le few = omega (arith, few, le, length-last left bs le)
 within-last left bs Stopped le few = tt
+within-last left bs NoMemory le few = tt
 
 -- past a feature that breaks a rule, or none
 pub seen_broken : (rule : Rule) (o : Option Rule) (left : ℕ) (w : model.Walk) → o ≡ Some rule → unless_broken o left w ≡ model.departed rule left
@@ -53,6 +55,13 @@ pub number_end : (go : ℕ → List ℕ → model.Walk) (r : Reads ℕ) → IsEr
 number_end go (Ok x) is = absurd cc
 number_end go (Err d) is = refl
 
+-- what is no want of memory
+pub had_memory : (r : Walk) → (r ≡ NoMemory → ⊥) → HadMemory r
+had_memory (Passed left) other = tt
+had_memory (Departed rule left) other = tt
+had_memory Stopped other = tt
+had_memory NoMemory other = absurd (other refl)
+
 -- what isn't passed is answered
 abbrev pub IsOther : Walk → Type 0
 IsOther r = (left : ℕ) → r ≡ Passed left → ⊥
@@ -61,11 +70,13 @@ pub other_view : (r : Walk) (bs cs : List ℕ) → IsOther r → walk_view bs r 
 other_view (Passed left) bs cs other = absurd (other left refl)
 other_view (Departed rule left) bs cs other = refl
 other_view Stopped bs cs other = refl
+other_view NoMemory bs cs other = refl
 
 other_then : (r : Walk) (bs : List ℕ) (go : List ℕ → model.Walk) → IsOther r → and_then (walk_view bs r) go ≡ walk_view bs r
 other_then (Passed left) bs go other = absurd (other left refl)
 other_then (Departed rule left) bs go other = refl
 other_then Stopped bs go other = refl
+other_then NoMemory bs go other = refl
 
 one_less : (n i : ℕ) → i < n → n - i ≡ suc (n - (i + 1))
 one_less n i lt = omega (arith, lt)
@@ -98,8 +109,8 @@ module _ (p : List ℕ → model.Walk) (is_open : Bool) (n i : ℕ) (lt : i < n)
         ∙ other_then r rest (all_walk p is_open (n - (i + 1))) other
         ∙ other_view r rest bs other
 
-module _ (terms : Terms) (p : List ℕ → model.Walk) (is_open : Bool) (n i : ℕ) (lt : i < n) (before rest : List ℕ) where
-  pub pairs_break : (is_open && is_break rest) ≡ true → pairs_walk terms p is_open (n - i) before rest ≡ model.passed (drop 1 rest)
+module _ (terms : Terms) (p : List ℕ → model.Walk) (is_open : Bool) (n i : ℕ) (lt : i < n) (earlier : List (List ℕ)) (rest : List ℕ) where
+  pub pairs_break : (is_open && is_break rest) ≡ true → pairs_walk terms p is_open (n - i) earlier rest ≡ model.passed (drop 1 rest)
   unfolding pairs_walk
   pairs_break ends = rw (one_less n i lt) (rw ends refl)
 
@@ -107,14 +118,14 @@ module _ (terms : Terms) (p : List ℕ → model.Walk) (is_open : Bool) (n i : �
   abbrev behind_key : List ℕ → model.Walk
   behind_key at_value =
       let k = take (length rest - length at_value) rest in
-      seen terms (key before k) (length at_value) (and_then (p at_value) (pairs_walk terms p is_open (n - (i + 1)) k))
+      seen terms (key earlier k) (length at_value) (and_then (p at_value) (pairs_walk terms p is_open (n - (i + 1)) (k ∷ earlier)))
 
   module _ (on : (is_open && is_break rest) ≡ false) where
-    pairs_begin : pairs_walk terms p is_open (n - i) before rest ≡ and_then (p rest) behind_key
+    pairs_begin : pairs_walk terms p is_open (n - i) earlier rest ≡ and_then (p rest) behind_key
     unfolding pairs_walk
     pairs_begin = rw (one_less n i lt) (rw on refl)
 
-    pub pairs_other : (bs : List ℕ) (r : Walk) → p rest ≡ walk_view rest r → IsOther r → pairs_walk terms p is_open (n - i) before rest ≡ walk_view bs r
+    pub pairs_other : (bs : List ℕ) (r : Walk) → p rest ≡ walk_view rest r → IsOther r → pairs_walk terms p is_open (n - i) earlier rest ≡ walk_view bs r
     pairs_other bs r is other =
         pairs_begin
         ∙ ap (λ (w : model.Walk). and_then w behind_key) is
@@ -122,27 +133,27 @@ module _ (terms : Terms) (p : List ℕ → model.Walk) (is_open : Bool) (n i : �
         ∙ other_view r rest bs other
 
     module _ (at_value k : List ℕ) (is : p rest ≡ model.passed at_value) (key_is : k ≡ take (length rest - length at_value) rest) where
-      pairs_key : pairs_walk terms p is_open (n - i) before rest ≡ seen terms (key before k) (length at_value) (and_then (p at_value) (pairs_walk terms p is_open (n - (i + 1)) k))
+      pairs_key : pairs_walk terms p is_open (n - i) earlier rest ≡ seen terms (key earlier k) (length at_value) (and_then (p at_value) (pairs_walk terms p is_open (n - (i + 1)) (k ∷ earlier)))
       pairs_key =
           pairs_begin
           ∙ ap (λ (w : model.Walk). and_then w behind_key) is
-          ∙ ap (λ (k : List ℕ). seen terms (key before k) (length at_value) (and_then (p at_value) (pairs_walk terms p is_open (n - (i + 1)) k))) (sym key_is)
+          ∙ ap (λ (k : List ℕ). seen terms (key earlier k) (length at_value) (and_then (p at_value) (pairs_walk terms p is_open (n - (i + 1)) (k ∷ earlier)))) (sym key_is)
 
-      pub pairs_departs : (rule : Rule) → broken terms (key before k) ≡ Some rule → pairs_walk terms p is_open (n - i) before rest ≡ model.departed rule (length at_value)
-      pairs_departs rule breaks = pairs_key ∙ seen_broken rule (broken terms (key before k)) (length at_value) _ breaks
+      pub pairs_departs : (rule : Rule) → broken terms (key earlier k) ≡ Some rule → pairs_walk terms p is_open (n - i) earlier rest ≡ model.departed rule (length at_value)
+      pairs_departs rule breaks = pairs_key ∙ seen_broken rule (broken terms (key earlier k)) (length at_value) _ breaks
 
-      module _ (keeps : broken terms (key before k) ≡ None) where
-        pairs_value : pairs_walk terms p is_open (n - i) before rest ≡ and_then (p at_value) (pairs_walk terms p is_open (n - (i + 1)) k)
-        pairs_value = pairs_key ∙ seen_kept (broken terms (key before k)) (length at_value) _ keeps
+      module _ (keeps : broken terms (key earlier k) ≡ None) where
+        pairs_value : pairs_walk terms p is_open (n - i) earlier rest ≡ and_then (p at_value) (pairs_walk terms p is_open (n - (i + 1)) (k ∷ earlier))
+        pairs_value = pairs_key ∙ seen_kept (broken terms (key earlier k)) (length at_value) _ keeps
 
-        pub pairs_step : (more : List ℕ) → p at_value ≡ model.passed more → pairs_walk terms p is_open (n - i) before rest ≡ pairs_walk terms p is_open (n - (i + 1)) k more
-        pairs_step more is' = pairs_value ∙ ap (λ (w : model.Walk). and_then w (pairs_walk terms p is_open (n - (i + 1)) k)) is'
+        pub pairs_step : (more : List ℕ) → p at_value ≡ model.passed more → pairs_walk terms p is_open (n - i) earlier rest ≡ pairs_walk terms p is_open (n - (i + 1)) (k ∷ earlier) more
+        pairs_step more is' = pairs_value ∙ ap (λ (w : model.Walk). and_then w (pairs_walk terms p is_open (n - (i + 1)) (k ∷ earlier))) is'
 
-        pub pairs_value_other : (bs : List ℕ) (r : Walk) → p at_value ≡ walk_view at_value r → IsOther r → pairs_walk terms p is_open (n - i) before rest ≡ walk_view bs r
+        pub pairs_value_other : (bs : List ℕ) (r : Walk) → p at_value ≡ walk_view at_value r → IsOther r → pairs_walk terms p is_open (n - i) earlier rest ≡ walk_view bs r
         pairs_value_other bs r is' other =
             pairs_value
-            ∙ ap (λ (w : model.Walk). and_then w (pairs_walk terms p is_open (n - (i + 1)) k)) is'
-            ∙ other_then r at_value (pairs_walk terms p is_open (n - (i + 1)) k) other
+            ∙ ap (λ (w : model.Walk). and_then w (pairs_walk terms p is_open (n - (i + 1)) (k ∷ earlier))) is'
+            ∙ other_then r at_value (pairs_walk terms p is_open (n - (i + 1)) (k ∷ earlier)) other
             ∙ other_view r at_value bs other
 
 -- where all are passed
@@ -150,9 +161,9 @@ pub all_end : (p : List ℕ → model.Walk) (is_open : Bool) (n i : ℕ) (rest :
 unfolding all_walk
 all_end p is_open n i rest le = let none : n - i ≡ 0 = omega (arith, le) in ap (λ (k : ℕ). all_walk p is_open k rest) none
 
-pub pairs_end : (terms : Terms) (p : List ℕ → model.Walk) (is_open : Bool) (n i : ℕ) (before rest : List ℕ) → n ≤ i → pairs_walk terms p is_open (n - i) before rest ≡ cond is_open model.stopped (model.passed rest)
+pub pairs_end : (terms : Terms) (p : List ℕ → model.Walk) (is_open : Bool) (n i : ℕ) (earlier : List (List ℕ)) (rest : List ℕ) → n ≤ i → pairs_walk terms p is_open (n - i) earlier rest ≡ cond is_open model.stopped (model.passed rest)
 unfolding pairs_walk
-pairs_end terms p is_open n i before rest le = let none : n - i ≡ 0 = omega (arith, le) in ap (λ (k : ℕ). pairs_walk terms p is_open k before rest) none
+pairs_end terms p is_open n i earlier rest le = let none : n - i ≡ 0 = omega (arith, le) in ap (λ (k : ℕ). pairs_walk terms p is_open k earlier rest) none
 
 -- ---- an item
 
@@ -188,6 +199,7 @@ pub within_rest : (rest bs : List ℕ) (r : Walk) → length rest ≤ length bs 
 within_rest rest bs (Passed k) le few = omega (arith, few, le)
 within_rest rest bs (Departed rule k) le few = omega (arith, few, le)
 within_rest rest bs Stopped le few = tt
+within_rest rest bs NoMemory le few = tt
 
 -- the rest after a part of the rest
 pub next_rest : (next rest bs : List ℕ) (left : ℕ) → next ≡ last left rest → left ≤ length rest → length rest ≤ length bs → rest ≡ last (length rest) bs → (length next ≤ length bs) × (next ≡ last (length next) bs)
@@ -220,6 +232,10 @@ module _ (bs : List ℕ) (left : ℕ) (r : Walk) (le : left ≤ length bs) where
   pub after_within : (o : Option Rule) → IsAfter o left r → IsWithin (length bs) r
   after_within None is = rw is le
   after_within (Some rule) is = rw is le
+
+pub after_memory : (rules : Rules) (left : ℕ) (r : Walk) (o : Option Rule) → IsAfter o left r → EndsForMemory rules r
+after_memory rules left r None is = rw is tt
+after_memory rules left r (Some rule) is = rw is tt
 
 pub float_on : (terms : Terms) (w : FloatWidth) (low bits left : ℕ) (bs : List ℕ) (r : Walk) → number_behind low bs ≡ Ok (bits, last left bs) → left ≤ length bs → IsAfter (broken terms (float_bits w bits)) left r → float_walk terms w low bs ≡ walk_view bs r
 float_on terms w low bits left bs r is le after =

@@ -14,8 +14,8 @@ pub data Feature : Type 0 where
   indefinite_length : Feature
   simple_item : Simple → Feature
   float_bits : FloatWidth → ℕ → Feature
-  -- the encodings of the key before it in its map, which is [] before the first, and of a key
-  key : List ℕ → List ℕ → Feature
+  -- the encodings of the keys before it in its map, the latest first, and of a key
+  key : List (List ℕ) → List ℕ → Feature
 
 -- a feature, and the offset after the bytes that show it
 pub record Place : Type 0 where
@@ -71,14 +71,14 @@ unfoldable mutual
   all_features at no_raws = []
   all_features at (raw r rs) = features at r ++ all_features (at + length (spell r)) rs
 
-  -- of pairs after a key of these bytes
-  pub pair_features : ℕ → List ℕ → RawPairs → List Place
-  pair_features at before no_raw_pairs = []
-  pair_features at before (raw_pair k v ps) =
+  -- of pairs after keys of these bytes
+  pub pair_features : ℕ → List (List ℕ) → RawPairs → List Place
+  pair_features at earlier no_raw_pairs = []
+  pair_features at earlier (raw_pair k v ps) =
       features at k
-      ++ (place (at + length (spell k)) (key before (spell k))
+      ++ (place (at + length (spell k)) (key earlier (spell k))
       ∷ (features (at + length (spell k)) v
-      ++ pair_features (at + length (spell k) + length (spell v)) (spell k) ps))
+      ++ pair_features (at + length (spell k) + length (spell v)) (spell k ∷ earlier) ps))
 
 -- ---- examples
 
@@ -95,7 +95,7 @@ two_keys : features 0 (map (definite no_bytes)
     no_raw_pairs)))
     ≡ place 1 (number 5 no_bytes 2)
     ∷ place 2 (number 0 no_bytes 1) ∷ place 2 (key [] (1 ∷ [])) ∷ place 3 (number 0 no_bytes 2)
-    ∷ place 4 (number 0 no_bytes 3) ∷ place 4 (key (1 ∷ []) (3 ∷ [])) ∷ place 5 (number 0 no_bytes 4)
+    ∷ place 4 (number 0 no_bytes 3) ∷ place 4 (key ((1 ∷ []) ∷ []) (3 ∷ [])) ∷ place 5 (number 0 no_bytes 4)
     ∷ []
 unfolding features spell
 two_keys = refl

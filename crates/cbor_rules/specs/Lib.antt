@@ -2,6 +2,8 @@ pub mod Features
 pub mod Rules
 pub mod Walk
 pub mod Walks
+pub mod PassedKeys
 pub mod Answers
 pub mod Texts
 pub mod Presets
+pub mod Unique

@@ -18,7 +18,7 @@ use Rattle.cbor_forms.specs.Shortened.{shortened, reduced, IsReducible}
 use Rattle.cbor_forms.specs.Shortest.{shortest}
 use Rattle.cbor_rules.specs.Rules.{Keeps, key_cmp, only}
 use Rattle.cbor_rules.specs.declared.settings.Rules.{Rules}
-use Rattle.cbor_rules.specs.declared.settings.KeyOrder.TheVariants.{Any, Bytewise, LengthFirst}
+use Rattle.cbor_rules.specs.declared.settings.KeyOrder.TheVariants.{Any, Unique, Bytewise, LengthFirst}
 use Rattle.cbor_rules.specs.declared.settings.KeyOrder.TheVariants.{TypeFirst}
 
 -- no rule
@@ -34,6 +34,10 @@ any_item = record {
   no_undefined = false;
   no_tags = false;
 }
+
+-- no key of a map twice (RFC 8949, section 5.6; RFC 9052, section 9)
+abbrev pub unique_keys : Rules
+unique_keys = record any_item { keys = Unique }
 
 -- shortest heads, definite lengths, keys in the order of their bytes, and nothing undefined
 abbrev pub canonical : Rules

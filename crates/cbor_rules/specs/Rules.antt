@@ -1,8 +1,9 @@
 -- Which features break a rule, which items keep the rules that are on, and the first departure.
 use Rattle.std.specs.Prelude.{◌≡◌, ℕ, ◌≤◌, ◌/◌, ◌^◌, Bool, true, false, List, [], ◌∷◌, Option, Some, None}
+use Rattle.std.specs.Prelude.{Result, Ok, Err}
 use Rattle.std.specs.Prelude.{◌&&◌, ◌==◌, not, nat_le, nat_lt, is_some, if◌then◌else◌, slice_index, refl}
 use Rattle.std.specs.List.{AllByRecursion, Contains, list_any}
-use Rattle.std.specs.Ordering.{ordering_then, nat_cmp}
+use Rattle.std.specs.Ordering.{is_eq, ordering_then, nat_cmp}
 use Rattle.std.specs.declared.cmp.Ordering.{Ordering}
 use Rattle.std.specs.declared.cmp.Ordering.TheVariants.{Less, Equal, Greater}
 use Rattle.cbor_model.specs.Head.{HeadWidth, no_bytes, one_byte, two_bytes, four_bytes, eight_bytes}
@@ -13,7 +14,10 @@ use Rattle.cbor_model.specs.Raw.{no_raws, no_raw_pairs, raw_pair}
 use Rattle.std.specs.Float.Ieee.{fits, odd, of_bits, of_fields, to_bits}
 use Rattle.cbor_model.specs.Plain as plain
 use Rattle.cbor_model.specs.Plain.{Val}
+use Rattle.cbor_model.specs.Canonical.{canon, canonical}
 use Rattle.cbor_model.specs.Order.{lex}
+use Rattle.cbor_model.specs.Reader.{Fault, read_value, read_value_in, item_at, item_by, byte_at}
+use Rattle.cbor_model.specs.Reader.{after_first, content_at, number_behind}
 use Rattle.cbor_model.specs.Spelling.{spell}
 use Rattle.cbor_value.specs.Floats as floats
 use Rattle.cbor_forms.specs.Reduced.{integer_of}
@@ -23,12 +27,12 @@ use Rattle.cbor_rules.specs.Features.{Feature, number, indefinite_length, simple
 use Rattle.cbor_rules.specs.Features.{features}
 use Rattle.cbor_rules.specs.declared.settings.Rules.{Rules}
 use Rattle.cbor_rules.specs.declared.settings.KeyOrder.{KeyOrder}
-use Rattle.cbor_rules.specs.declared.settings.KeyOrder.TheVariants.{Any, Bytewise, LengthFirst}
+use Rattle.cbor_rules.specs.declared.settings.KeyOrder.TheVariants.{Any, Unique, Bytewise, LengthFirst}
 use Rattle.cbor_rules.specs.declared.settings.KeyOrder.TheVariants.{TypeFirst}
 use Rattle.cbor_rules.specs.declared.settings.Rule.{Rule}
 use Rattle.cbor_rules.specs.declared.settings.Rule.TheVariants.{ShortestHeads, DefiniteLengths}
 use Rattle.cbor_rules.specs.declared.settings.Rule.TheVariants.{PlainKeys, AscendingKeys, OneNan}
-use Rattle.cbor_rules.specs.declared.settings.Rule.TheVariants.{ReducedNumbers}
+use Rattle.cbor_rules.specs.declared.settings.Rule.TheVariants.{UniqueKeys, ReducedNumbers}
 use Rattle.cbor_rules.specs.declared.settings.Rule.TheVariants.{ShortestFloats, NoUndefined, NoTags}
 use Rattle.cbor_rules.specs.declared.answers.Departure.{Departure}
 
@@ -67,6 +71,7 @@ major bs = slice_index bs 0 / 32
 -- the orders of keys by their encodings
 abbrev pub key_cmp : KeyOrder → List ℕ → List ℕ → Ordering
 key_cmp Any a b = Less
+key_cmp Unique a b = Less
 key_cmp Bytewise a b = lex a b
 key_cmp LengthFirst a b = by_length a b
 key_cmp TypeFirst a b = ordering_then (nat_cmp (major a) (major b)) (by_length a b)
@@ -75,6 +80,32 @@ abbrev pub is_less : Ordering → Bool
 is_less Less = true
 is_less Equal = false
 is_less Greater = false
+
+-- the encoding of the latest of the keys, or none
+abbrev pub latest : List (List ℕ) → List ℕ
+latest [] = []
+latest (k ∷ ks) = k
+
+-- whether each value may be a key of a map once, in any order
+abbrev pub is_unique : KeyOrder → Bool
+is_unique Unique = true
+is_unique _ = false
+
+abbrev canon_or : List ℕ → Result Val Fault → List ℕ
+canon_or k (Ok v) = canon v
+canon_or k (Err f) = k
+
+-- the canonical encoding of the value that a key encodes; bytes that encode none stand for themselves
+abbrev pub canonical_key : List ℕ → List ℕ
+canonical_key k = canon_or k (read_value k)
+
+-- these are the canonical encoding of one of the keys' values
+abbrev pub has_key : List (List ℕ) → List ℕ → Bool
+has_key keys bytes = list_any (λ k. is_eq (lex (canonical_key k) bytes)) keys
+
+-- one of the earlier keys is of the same value
+abbrev pub is_repeated : List (List ℕ) → List ℕ → Bool
+is_repeated earlier k = has_key earlier (canonical_key k)
 
 -- the key is an array, a map or a tag
 abbrev pub is_compound : List ℕ → Bool
@@ -108,8 +139,10 @@ breaks terms ReducedNumbers (float_bits w bits) =
     terms.rules.reduced_numbers && is_some (integer_of (floats.number w bits))
 breaks terms ShortestFloats (float_bits w bits) = terms.rules.shortest_floats && is_wide w bits
 breaks terms OneNan (float_bits w bits) = terms.rules.one_nan && is_other_nan w bits
-breaks terms PlainKeys (key before k) = terms.rules.plain_keys && is_compound k
-breaks terms AscendingKeys (key before k) = not (is_less (key_cmp terms.rules.keys before k))
+breaks terms PlainKeys (key earlier k) = terms.rules.plain_keys && is_compound k
+breaks terms AscendingKeys (key earlier k) =
+    not (is_less (key_cmp terms.rules.keys (latest earlier) k))
+breaks terms UniqueKeys (key earlier k) = is_unique terms.rules.keys && is_repeated earlier k
 breaks terms _ _ = false
 
 -- at each of the places the rule is kept, or it is off
@@ -131,8 +164,8 @@ first_broken terms f (rule ∷ others) =
 -- each rule
 abbrev pub all_rules : List Rule
 all_rules =
-    ShortestHeads ∷ DefiniteLengths ∷ PlainKeys ∷ AscendingKeys ∷ ReducedNumbers ∷ ShortestFloats
-    ∷ OneNan ∷ NoUndefined ∷ NoTags ∷ []
+    ShortestHeads ∷ DefiniteLengths ∷ PlainKeys ∷ AscendingKeys ∷ UniqueKeys ∷ ReducedNumbers
+    ∷ ShortestFloats ∷ OneNan ∷ NoUndefined ∷ NoTags ∷ []
 
 abbrev pub broken : Terms → Feature → Option Rule
 broken terms f = first_broken terms f all_rules
@@ -233,6 +266,18 @@ too_low : first_departure (only (record (keys_only Any) { reduced_numbers = true
     ≡ Some (record { rule = ReducedNumbers; offset = 9 })
 unfolding first_departure features
 too_low = refl
+
+-- a2 01 f6 18 01 f6, whose keys are two encodings of 1
+abbrev two_ones : Raw
+two_ones = map (definite no_bytes)
+    (raw_pair (unsigned no_bytes 1) (simple null_item)
+    (raw_pair (unsigned one_byte 1) (simple null_item)
+    no_raw_pairs))
+
+one_twice : first_departure (only (keys_only Unique)) two_ones
+    ≡ Some (record { rule = UniqueKeys; offset = 5 })
+unfolding first_departure features spell canon canonical read_value_in item_at item_by byte_at after_first content_at number_behind
+one_twice = refl
 
 -- f9 7e 01
 other_nan : first_departure

@@ -5,7 +5,7 @@ use Rattle.cbor_io.specs.Error.{error_text, styled_error_text}
 use Rattle.cbor_rules.specs.declared.settings.Rule.{Rule}
 use Rattle.cbor_rules.specs.declared.settings.Rule.TheVariants.{ShortestHeads, DefiniteLengths}
 use Rattle.cbor_rules.specs.declared.settings.Rule.TheVariants.{PlainKeys, AscendingKeys, OneNan}
-use Rattle.cbor_rules.specs.declared.settings.Rule.TheVariants.{ReducedNumbers}
+use Rattle.cbor_rules.specs.declared.settings.Rule.TheVariants.{UniqueKeys, ReducedNumbers}
 use Rattle.cbor_rules.specs.declared.settings.Rule.TheVariants.{ShortestFloats, NoUndefined, NoTags}
 use Rattle.cbor_rules.specs.declared.answers.Departure.{Departure}
 use Rattle.cbor_rules.specs.declared.answers.Refusal.{Refusal}
@@ -17,6 +17,7 @@ rule_text ShortestHeads = codes "head not the shortest"
 rule_text DefiniteLengths = codes "indefinite length"
 rule_text PlainKeys = codes "array, map or tag as a key"
 rule_text AscendingKeys = codes "key out of order"
+rule_text UniqueKeys = codes "duplicate key"
 rule_text ReducedNumbers = codes "number not reduced"
 rule_text ShortestFloats = codes "float not the shortest"
 rule_text OneNan = codes "NaN other than f97e00"

@@ -67,15 +67,15 @@ all_walk p is_open (suc n) bs =
     if is_open && is_break bs then passed (drop 1 bs)
     else and_then (p bs) (all_walk p is_open n)
 
--- n pairs likewise, after a key of these bytes; without one, they are none
-unfoldable pub pairs_walk : Terms → (List ℕ → Walk) → Bool → ℕ → List ℕ → List ℕ → Walk
-pairs_walk terms p is_open zero before bs = if is_open then stopped else passed bs
-pairs_walk terms p is_open (suc n) before bs =
+-- n pairs likewise, after keys of these bytes, the latest first
+unfoldable pub pairs_walk : Terms → (List ℕ → Walk) → Bool → ℕ → List (List ℕ) → List ℕ → Walk
+pairs_walk terms p is_open zero earlier bs = if is_open then stopped else passed bs
+pairs_walk terms p is_open (suc n) earlier bs =
     if is_open && is_break bs then passed (drop 1 bs)
     else and_then (p bs) (λ at_value.
     let k = take (length bs - length at_value) bs in
-    seen terms (key before k) (length at_value)
-    (and_then (p at_value) (pairs_walk terms p is_open n k)))
+    seen terms (key earlier k) (length at_value)
+    (and_then (p at_value) (pairs_walk terms p is_open n (k ∷ earlier))))
 
 -- what follows a head of this major type, below 7, with its number
 unfoldable pub inside_walk : Terms → (List ℕ → Walk) → ℕ → ℕ → List ℕ → Walk

@@ -1,5 +1,5 @@
 -- What going through bytes answers.
-use Rattle.std.specs.Prelude.{⊤, ◌≡◌, ◌-◌, ◌<◌, ◌≤◌, ℕ, List, length, drop, Option, Some, None, Ok}
+use Rattle.std.specs.Prelude.{⊤, true, ◌≡◌, ◌-◌, ◌<◌, ◌≤◌, ℕ, List, length, drop, Option, Some, None, Ok}
 use Rattle.std.specs.Prelude.{IsErr}
 use Rattle.cbor_model.specs.Head.{limit}
 use Rattle.cbor_model.specs.Raw.{half, single, double}
@@ -7,10 +7,12 @@ use Rattle.cbor_model.specs.Reader.{number_behind, width_of}
 use Rattle.cbor_value.specs.declared.Float.{Float}
 use Rattle.cbor_value.specs.declared.Float.TheVariants.{Half, Single, Double}
 use Rattle.cbor_rules.specs.Features.{Feature, float_bits}
+use Rattle.cbor_rules.specs.Rules.{is_unique}
 use Rattle.cbor_rules.specs.Walk as model
 use Rattle.cbor_rules.specs.declared.settings.Rule.{Rule}
+use Rattle.cbor_rules.specs.declared.settings.Rules.{Rules}
 use Rattle.cbor_rules.specs.declared.walk.Walk.{Walk}
-use Rattle.cbor_rules.specs.declared.walk.Walk.TheVariants.{Passed, Departed, Stopped}
+use Rattle.cbor_rules.specs.declared.walk.Walk.TheVariants.{Passed, Departed, Stopped, NoMemory}
 
 -- the last n of the bytes
 abbrev pub last : ℕ → List ℕ → List ℕ
@@ -20,16 +22,28 @@ abbrev pub walk_view : List ℕ → Walk → model.Walk
 walk_view bs (Passed left) = model.passed (last left bs)
 walk_view bs (Departed rule left) = model.departed rule left
 walk_view bs Stopped = model.stopped
+walk_view bs NoMemory = model.stopped
+
+-- memory didn't run out
+abbrev pub HadMemory : Walk → Type 0
+HadMemory NoMemory = ⊥
+HadMemory _ = ⊤
+
+-- memory runs out only where each value may be a key once
+abbrev pub EndsForMemory : Rules → Walk → Type 0
+EndsForMemory rules NoMemory = is_unique rules.keys ≡ true
+EndsForMemory rules _ = ⊤
 
 -- no more than so many bytes are left
 abbrev pub IsWithin : ℕ → Walk → Type 0
 IsWithin n (Passed left) = left ≤ n
 IsWithin n (Departed rule left) = left ≤ n
 IsWithin n Stopped = ⊤
+IsWithin n NoMemory = ⊤
 
--- The answer is that of the model, with fuel for all of the bytes.
+-- The answer is that of the model, with fuel for all of the bytes, unless memory ran out.
 abbrev pub Walks : List ℕ → (ℕ → List ℕ → model.Walk) → Walk → Type 0
-Walks bs go r = (fuel : ℕ) → length bs ≤ fuel → go fuel bs ≡ walk_view bs r
+Walks bs go r = HadMemory r → (fuel : ℕ) → length bs ≤ fuel → go fuel bs ≡ walk_view bs r
 
 -- a number, and how many bytes are left after it
 abbrev pub IsNumber : ℕ → List ℕ → ℕ × ℕ → Type 0

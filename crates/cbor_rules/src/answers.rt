@@ -18,3 +18,14 @@ pub enum Refusal {
     /// They are the encoding of one that departs from a rule: here first.
     Departs(Departure),
 }
+
+impl From<Error> for Refusal {
+    ghost use Rattle.std.specs.Prelude.{◌≡◌};
+    ghost use Rattle.cbor_rules.specs.declared.answers.Refusal.TheVariants.{Unread};
+
+    ghost from_gives = { λ error refusal. refusal ≡ Unread error };
+
+    fn from(error: Error) -> Refusal {
+        Refusal::Unread(error)
+    }
+}

@@ -1,6 +1,6 @@
 //! Reading a whole input by rules.
 
-ghost use Rattle.std.specs.Prelude.{◌⊎◌, IfErr, IfOk, MatchResult, None};
+ghost use Rattle.std.specs.Prelude.{◌≡◌, ◌⊎◌, true, IfErr, IfOk, MatchResult, None};
 ghost use Rattle.cbor_model.specs.Allowed.{limits_of};
 ghost use Rattle.cbor_model.specs.Formats.{all_formats};
 ghost use Rattle.cbor_model.specs.Laws.{SpellsValue};
@@ -14,7 +14,7 @@ ghost use Rattle.cbor_de.specs.Forms.{MayReport};
 ghost use Rattle.cbor_de.specs.Whole.{RefusesUnread, from_slice_asks, from_slice_context};
 ghost use Rattle.cbor_rules.specs.Answers.{IfDeparts, IfUnread, IsMemory, SpellsByRules};
 ghost use Rattle.cbor_rules.specs.Answers.{SpellsDeparting, ReportsItsDeparture};
-ghost use Rattle.cbor_rules.specs.Rules.{only, under};
+ghost use Rattle.cbor_rules.specs.Rules.{is_unique, only, under};
 
 use crate::answers::Refusal;
 use crate::settings::Rules;
@@ -29,8 +29,13 @@ use std::alloc::Global;
 /// departs from a rule is refused by its first departure: with the rule, and the offset after the
 /// bytes that show it. That is after the head for a head that isn't the shortest and for a tag,
 /// after the first byte of an indefinite length, after a float or an undefined, and after a key
-/// that is not plain or may not follow the one before it. What is reported of a head comes before
-/// what is reported of the key that it ends. No memory is taken beyond that of `from_slice`.
+/// that is not plain or may not follow the ones before it. What is reported of a head comes before
+/// what is reported of the key that it ends.
+///
+/// No memory is taken beyond that of `from_slice`, but under `KeyOrder::Unique`: there each map's
+/// keys are kept while the map is gone through, as references to their bytes, and a key that isn't
+/// encoded canonically, or is neither an integer nor a string, as its value's canonical encoding. A
+/// key is compared with as many as the logarithm of their number.
 ///
 /// ```rust
 /// let numbers: [u8; 2] = from_slice_with(alloc, &[0x82, 0x01, 0x02], Rules::DETERMINISTIC)?;
@@ -74,10 +79,12 @@ pub fn from_slice_with<'a, T: Deserialize<'a, SliceRead<'a>>>(
     // by their first refusal.
     ensures fault { IfErr result (IfUnread (λ e. WhereTotal T.passes_over
         (IsOutOfMemory e ⊎ RefusesUnread (T.reads from_slice_context) None slice.now e))) }
-    // Memory runs out only for an item for which the type may ask for it.
+    // Memory runs out only for an item for which the type may ask for it, or where each value may
+    // be a key once.
     ensures memory { (x : T)
         → (spelt : SpellsAs all_formats (T.reads from_slice_context) slice.now x)
-        → IfErr result (IfUnread (λ e. T.asks_memory from_slice_asks spelt.item)) }
+        → IfErr result (IfUnread
+        (λ e. T.asks_memory from_slice_asks spelt.item ⊎ (is_unique rules.keys ≡ true))) }
 {
     from_slice_with_tags(alloc, slice, rules, &[])
 }
@@ -126,16 +133,16 @@ pub fn from_slice_with_tags<'a, T: Deserialize<'a, SliceRead<'a>>>(
     // by their first refusal.
     ensures fault { IfErr result (IfUnread (λ e. WhereTotal T.passes_over
         (IsOutOfMemory e ⊎ RefusesUnread (T.reads from_slice_context) None slice.now e))) }
-    // Memory runs out only for an item for which the type may ask for it.
+    // Memory runs out only for an item for which the type may ask for it, or where each value may
+    // be a key once.
     ensures memory { (x : T)
         → (spelt : SpellsAs all_formats (T.reads from_slice_context) slice.now x)
-        → IfErr result (IfUnread (λ e. T.asks_memory from_slice_asks spelt.item)) }
+        → IfErr result (IfUnread
+        (λ e. T.asks_memory from_slice_asks spelt.item ⊎ (is_unique rules.keys ≡ true))) }
 {
-    match from_slice::<T>(alloc, slice) {
-        Ok(value) => match first_departure(rules, tags, slice) {
-            Some(departure) => Err(Refusal::Departs(departure)),
-            None => Ok(value),
-        },
-        Err(e) => Err(Refusal::Unread(e)),
+    let value = from_slice::<T>(alloc, slice)?;
+    match first_departure(alloc, rules, tags, slice)? {
+        Some(departure) => Err(Refusal::Departs(departure)),
+        None => Ok(value),
     }
 }

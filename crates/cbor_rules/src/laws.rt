@@ -7,7 +7,8 @@
 ghost use Rattle.std.specs.Prelude.{◌≡◌};
 ghost use Rattle.cbor_rules.specs.Rules.{FirstIsLeast, NoneWhereKept};
 ghost use Rattle.cbor_rules.specs.Presets.{any_item, canonical, ctap2, dcbor, deterministic};
-ghost use Rattle.cbor_rules.specs.Presets.{length_first};
+ghost use Rattle.cbor_rules.specs.Presets.{length_first, unique_keys};
+ghost use Rattle.cbor_rules.specs.Unique.{UniqueKeysAreKept};
 ghost use Rattle.cbor_rules.specs.Presets.{AcceptedIsWritten, WrittenIsAccepted, defined};
 ghost use Rattle.cbor_rules.specs.Presets.{IsCanonicalOf, IsDeterministicOf, IsLengthFirstOf};
 ghost use Rattle.cbor_rules.specs.Presets.{IsCtap2Of, TypeFirstIsBytewise};
@@ -30,9 +31,16 @@ pub fn first_is_least()
     ensures { FirstIsLeast }
 {}
 
+/// An acceptable item keeps the rule of unique keys exactly where no map in it has a value as a key
+/// twice.
+pub fn unique_keys_are_kept()
+    ensures { UniqueKeysAreKept }
+{}
+
 /// Which rules are on in each preset.
 pub fn presets()
     ensures any { Rules.ANY ≡ any_item }
+    ensures unique_keys { Rules.UNIQUE_KEYS ≡ unique_keys }
     ensures canonical { Rules.CANONICAL ≡ canonical }
     ensures deterministic { Rules.DETERMINISTIC ≡ deterministic }
     ensures length_first { Rules.LENGTH_FIRST ≡ length_first }

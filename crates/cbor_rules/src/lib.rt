@@ -1,10 +1,11 @@
 //! Reading by rules of one's own: each strictness by itself, and each deterministic form by name.
 //!
 //! The ordinary reader reads; a walk over the same bytes then looks for the first departure from
-//! the rules that are on, without memory.
+//! the rules that are on, without memory but for keys that may stand in any order once.
 #![tactic(auto)]
 
 mod answers;
+mod canonical_key;
 mod from;
 mod heads;
 mod keys;
@@ -21,5 +22,6 @@ pub use laws::{
     deterministic_accepted_is_written, deterministic_written_is_accepted, first_is_least,
     length_first_accepted_is_written, length_first_written_is_accepted, none_where_kept, presets,
     reduced_has_reduced_numbers, shortened_has_shortest_floats, type_first_is_bytewise,
+    unique_keys_are_kept,
 };
 pub use settings::{KeyOrder, Rule, Rules};

@@ -9,6 +9,9 @@ ghost use Rattle.std.specs.Prelude.{◌≡◌};
 pub enum KeyOrder {
     /// In any order, and more than once.
     Any,
+    /// In any order, each value once: two encodings of one value are one key twice. Equal numbers
+    /// in floats of two widths are two values, as for `Value`.
+    Unique,
     /// By their bytes, as RFC 8949, section 4.2.1, has it.
     Bytewise,
     /// Shorter ones first, and those of one length by their bytes: RFC 8949, section 4.2.3, and
@@ -29,6 +32,8 @@ pub enum Rule {
     PlainKeys,
     /// Each map's keys strictly ascend.
     AscendingKeys,
+    /// No map has a value as a key twice.
+    UniqueKeys,
     /// No float is an integer from -2^63 to 2^64 - 1, and no integer is below -2^63: dCBOR's
     /// numeric reduction (draft-mcnally-deterministic-cbor).
     ReducedNumbers,
@@ -50,7 +55,7 @@ pub enum Rule {
 /// ```
 #[derive(Clone, Copy, Debug, PartialEq, Eq)]
 pub struct Rules {
-    /// The order in which the keys of each map strictly ascend.
+    /// The order in which the keys of each map strictly ascend, or that each value is a key once.
     pub keys: KeyOrder,
     /// Whether each key of a map has to be a number, a string or a simple value.
     pub plain_keys: bool,
@@ -75,6 +80,20 @@ impl Rules {
     /// None: what `from_slice` reads.
     pub const ANY: Rules = Rules {
         keys: KeyOrder::Any,
+        plain_keys: false,
+        shortest_heads: false,
+        definite_lengths: false,
+        reduced_numbers: false,
+        shortest_floats: false,
+        one_nan: false,
+        no_undefined: false,
+        no_tags: false,
+    };
+
+    /// No map has a key twice, which RFC 8949, section 5.6, asks of valid items, and COSE of its
+    /// maps of labels (RFC 9052, section 9). In all else it is what `from_slice` reads.
+    pub const UNIQUE_KEYS: Rules = Rules {
+        keys: KeyOrder::Unique,
         plain_keys: false,
         shortest_heads: false,
         definite_lengths: false,

@@ -16,6 +16,7 @@ impl Rule {
             Rule::DefiniteLengths => "indefinite length",
             Rule::PlainKeys => "array, map or tag as a key",
             Rule::AscendingKeys => "key out of order",
+            Rule::UniqueKeys => "duplicate key",
             Rule::ReducedNumbers => "number not reduced",
             Rule::ShortestFloats => "float not the shortest",
             Rule::OneNan => "NaN other than f97e00",

@@ -1,25 +1,29 @@
 //! Going through the bytes of an item up to its first departure from the rules.
 //!
-//! Nothing is kept of the item, so it takes no memory. A string is passed in one step, and the key
-//! of a pair is compared with the one before it by the bytes of both.
+//! Nothing is kept of the item but, where each value may be a key once, what tells the keys of a
+//! map apart: other rules take no memory. A string is passed in one step, and the key of a pair is
+//! compared with the one before it by the bytes of both.
 
 ghost use Rattle.std.specs.Prelude.{◌≡◌, ◌&&◌, ◌-◌, ◌/◌, ◌%◌, ◌<◌, ◌≤◌, [], length, take, IsTrue};
-ghost use Rattle.std.specs.Prelude.{MatchOption, if◌then◌else◌};
+ghost use Rattle.std.specs.Prelude.{IfErr, IfOk, MatchOption, OnErr, if◌then◌else◌, true};
 ghost use Rattle.cbor_model.specs.Raw.{Raw, IsWellFormed, half, single, double, undefined_item};
 ghost use Rattle.cbor_model.specs.Spelling.{spell};
 ghost use Rattle.cbor_rules.specs.Features.{simple_item};
-ghost use Rattle.cbor_rules.specs.Rules.{broken, first_departure, only, under};
+ghost use Rattle.cbor_io.specs.Error.{IsOutOfMemory};
+ghost use Rattle.cbor_rules.specs.Rules.{broken, first_departure, is_unique, only, under};
 ghost use Rattle.cbor_rules.specs.Walk.{all_walk, content_walk, float_walk, head_walk, inside_walk};
 ghost use Rattle.cbor_rules.specs.Walk.{is_break, indefinite_walk, pairs_walk, past, simple_walk, walk};
 ghost use Rattle.cbor_rules.specs.Walk.{passed, seen, stopped};
 ghost use Rattle.cbor_rules.specs.Walks.{last, float_feature, walk_view, IsNumber, IsWithin};
-ghost use Rattle.cbor_rules.specs.Walks.{IsAfter, StopsNumber, Walks};
+ghost use Rattle.cbor_rules.specs.Walks.{EndsForMemory, IsAfter, StopsNumber, Walks};
 
 use crate::answers::Departure;
 use crate::heads::{broken_by_float, broken_by_number};
-use crate::keys::broken_by_key;
+use crate::keys::Keys;
 use crate::settings::{Rule, Rules};
+use cbor_io::error::Result;
 use cbor_value::Float;
+use std::alloc::{AllocError, Global};
 
 /// What came of going on.
 #[derive(Clone, Copy)]
@@ -30,67 +34,82 @@ pub enum Walk {
     Departed(Rule, usize),
     /// No departure up to where no item goes on so, or the bytes end.
     Stopped,
+    /// Memory ran out before a departure.
+    NoMemory,
 }
 
 /// The first departure of the item that the bytes encode, if there is one, where these tags stand
 /// that the rules refuse otherwise. Of other bytes nothing is said.
-pub(crate) fn first_departure(rules: Rules, tags: &[u64], bytes: &[u8]) -> Option<Departure>
-    ensures { (r : Raw) → IsWellFormed r → spell r ≡ bytes.now
-        → result ≡ first_departure (under rules tags.now) r }
+///
+/// Memory may run out where each value may be a key once.
+pub(crate) fn first_departure(
+    alloc: Global,
+    rules: Rules,
+    tags: &[u64],
+    bytes: &[u8],
+) -> Result<Option<Departure>>
+    ensures first { (r : Raw) → IsWellFormed r → spell r ≡ bytes.now
+        → IfOk result (λ departure. departure ≡ first_departure (under rules tags.now) r) }
+    ensures memory { IfErr result IsOutOfMemory }
+    ensures unique { OnErr result (is_unique rules.keys ≡ true) }
 {
-    match item(rules, tags, bytes) {
-        Walk::Departed(rule, left) => Some(Departure {
+    match item(alloc, rules, tags, bytes) {
+        Walk::Departed(rule, left) => Ok(Some(Departure {
             rule,
             offset: (bytes.len() - left) as u64,
-        }),
-        _ => None,
+        })),
+        Walk::NoMemory => Err(AllocError.into()),
+        _ => Ok(None),
     }
 }
 
 /// Goes past an item.
 #[cycle(walk)]
 #[inline(always)]
-fn item(rules: Rules, tags: &[u64], bytes: &[u8]) -> Walk
+fn item(alloc: Global, rules: Rules, tags: &[u64], bytes: &[u8]) -> Walk
     ensures walks { Walks bytes.now (walk (under rules tags.now)) result }
 
     ensures within { IsWithin (length bytes.now) result }
+    ensures memory { EndsForMemory rules result }
 {
     match bytes.split_first() {
-        Some((first, rest)) => content(rules, tags, *first, rest),
+        Some((first, rest)) => content(alloc, rules, tags, *first, rest),
         None => Walk::Stopped,
     }
 }
 
 /// Goes past what follows a first byte.
 #[cycle(walk)]
-fn content(rules: Rules, tags: &[u64], first: u8, bytes: &[u8]) -> Walk
+fn content(alloc: Global, rules: Rules, tags: &[u64], first: u8, bytes: &[u8]) -> Walk
     ensures walks { let terms = under rules tags.now in
         Walks bytes.now
         (λ fuel. content_walk terms (walk terms fuel) (first / 32) (first % 32)) result }
     ensures within { IsWithin (length bytes.now) result }
+    ensures memory { EndsForMemory rules result }
 {
     let major = first / 32;
     let low = first % 32;
     if major == 7 {
         simple(rules, low, bytes)
     } else if low == 31 {
-        indefinite(rules, tags, major, bytes)
+        indefinite(alloc, rules, tags, major, bytes)
     } else {
-        head(rules, tags, major, low, bytes)
+        head(alloc, rules, tags, major, low, bytes)
     }
 }
 
 /// Goes past what follows a first byte of a head with its number.
 #[cycle(walk)]
-fn head(rules: Rules, tags: &[u64], major: u8, low: u8, bytes: &[u8]) -> Walk
+fn head(alloc: Global, rules: Rules, tags: &[u64], major: u8, low: u8, bytes: &[u8]) -> Walk
     ensures walks { let terms = under rules tags.now in
         Walks bytes.now (λ fuel. head_walk terms (walk terms fuel) major low) result }
     ensures within { IsWithin (length bytes.now) result }
+    ensures memory { EndsForMemory rules result }
 {
     match number(low, bytes) {
         Some((n, left)) => match broken_by_number(rules, tags, major, low, n) {
             Some(rule) => Walk::Departed(rule, left),
-            None => inside(rules, tags, major, n, behind(bytes, left)),
+            None => inside(alloc, rules, tags, major, n, behind(bytes, left)),
         },
         None => Walk::Stopped,
     }
@@ -98,57 +117,60 @@ fn head(rules: Rules, tags: &[u64], major: u8, low: u8, bytes: &[u8]) -> Walk
 
 /// Goes past what follows a head with its number.
 #[cycle(walk)]
-fn inside(rules: Rules, tags: &[u64], major: u8, n: u64, bytes: &[u8]) -> Walk
+fn inside(alloc: Global, rules: Rules, tags: &[u64], major: u8, n: u64, bytes: &[u8]) -> Walk
     ensures walks { let terms = under rules tags.now in
         Walks bytes.now (λ fuel. inside_walk terms (walk terms fuel) major n) result }
     ensures within { IsWithin (length bytes.now) result }
+    ensures memory { EndsForMemory rules result }
 {
     if major <= 1 {
         Walk::Passed(bytes.len())
     } else if major <= 3 {
         past(n, bytes)
     } else if major == 4 {
-        items(rules, tags, false, n, bytes)
+        items(alloc, rules, tags, false, n, bytes)
     } else if major == 5 {
-        pairs(rules, tags, false, n, bytes)
+        pairs(alloc, rules, tags, false, n, bytes)
     } else {
-        item(rules, tags, bytes)
+        item(alloc, rules, tags, bytes)
     }
 }
 
 /// Goes past what follows the first byte of an indefinite length. The chunks of a string are
 /// passed as items, which their encodings are.
 #[cycle(walk)]
-fn indefinite(rules: Rules, tags: &[u64], major: u8, bytes: &[u8]) -> Walk
+fn indefinite(alloc: Global, rules: Rules, tags: &[u64], major: u8, bytes: &[u8]) -> Walk
     ensures walks { let terms = under rules tags.now in
         Walks bytes.now (λ fuel. indefinite_walk terms (walk terms fuel) major) result }
     ensures within { IsWithin (length bytes.now) result }
+    ensures memory { EndsForMemory rules result }
 {
     if rules.definite_lengths {
         return Walk::Departed(Rule::DefiniteLengths, bytes.len());
     }
     let most = bytes.len() as u64;
     if major == 5 {
-        pairs(rules, tags, true, most, bytes)
+        pairs(alloc, rules, tags, true, most, bytes)
     } else {
-        items(rules, tags, true, most, bytes)
+        items(alloc, rules, tags, true, most, bytes)
     }
 }
 
 /// Goes past n items; in an indefinite length up to a break, and past n at the most.
 #[cycle(walk)]
 #[inline(never)]
-fn items(rules: Rules, tags: &[u64], is_open: bool, n: u64, bytes: &[u8]) -> Walk
+fn items(alloc: Global, rules: Rules, tags: &[u64], is_open: bool, n: u64, bytes: &[u8]) -> Walk
     ensures walks { let terms = under rules tags.now in
         Walks bytes.now (λ fuel. all_walk (walk terms fuel) is_open n) result }
     ensures within { IsWithin (length bytes.now) result }
+    ensures memory { EndsForMemory rules result }
 {
     let mut rest = bytes;
     for _i in 0..n {
         if ends(is_open, rest) {
             return Walk::Passed(rest.len() - 1);
         }
-        match item(rules, tags, rest) {
+        match item(alloc, rules, tags, rest) {
             Walk::Passed(left) => rest = behind(rest, left),
             other => return other,
         }
@@ -159,29 +181,27 @@ fn items(rules: Rules, tags: &[u64], is_open: bool, n: u64, bytes: &[u8]) -> Wal
 /// Goes past n pairs likewise, whose keys keep the rules.
 #[cycle(walk)]
 #[inline(never)]
-fn pairs(rules: Rules, tags: &[u64], is_open: bool, n: u64, bytes: &[u8]) -> Walk
+fn pairs(alloc: Global, rules: Rules, tags: &[u64], is_open: bool, n: u64, bytes: &[u8]) -> Walk
     ensures walks { let terms = under rules tags.now in
         Walks bytes.now (λ fuel. pairs_walk terms (walk terms fuel) is_open n []) result }
     ensures within { IsWithin (length bytes.now) result }
+    ensures memory { EndsForMemory rules result }
 {
     let mut rest = bytes;
-    let mut before = &bytes[..0];
+    let mut keys = Keys::new(alloc);
     for _i in 0..n {
         if ends(is_open, rest) {
             return Walk::Passed(rest.len() - 1);
         }
-        match item(rules, tags, rest) {
-            Walk::Passed(left) => {
-                let key = ahead(rest, left);
-                if let Some(rule) = broken_by_key(rules, before, key) {
-                    return Walk::Departed(rule, left);
-                }
-                before = key;
-                rest = behind(rest, left);
-            }
+        match item(alloc, rules, tags, rest) {
+            Walk::Passed(left) => match keys.pass(alloc, rules, ahead(rest, left)) {
+                Ok(None) => rest = behind(rest, left),
+                Ok(Some(rule)) => return Walk::Departed(rule, left),
+                Err(_) => return Walk::NoMemory,
+            },
             other => return other,
         }
-        match item(rules, tags, rest) {
+        match item(alloc, rules, tags, rest) {
             Walk::Passed(left) => rest = behind(rest, left),
             other => return other,
         }
@@ -207,6 +227,7 @@ fn ended(is_open: bool, bytes: &[u8]) -> Walk
     ensures walks { (if is_open then stopped else passed bytes.now) ≡ walk_view bytes.now result }
 
     ensures within { IsWithin (length bytes.now) result }
+    ensures memory { (rules : Rules) → EndsForMemory rules result }
 {
     if is_open {
         Walk::Stopped
@@ -239,6 +260,7 @@ fn past(n: u64, bytes: &[u8]) -> Walk
     ensures walks { Walks bytes.now (λ fuel. past n) result }
 
     ensures within { IsWithin (length bytes.now) result }
+    ensures memory { (rules : Rules) → EndsForMemory rules result }
 {
     let len = bytes.len() as u64;
     if len < n {
@@ -254,6 +276,7 @@ fn simple(rules: Rules, low: u8, bytes: &[u8]) -> Walk
     ensures walks { Walks bytes.now (λ fuel. simple_walk (only rules) low) result }
 
     ensures within { IsWithin (length bytes.now) result }
+    ensures memory { EndsForMemory rules result }
 {
     match low {
         23 => undefined(rules, bytes),
@@ -270,6 +293,7 @@ fn undefined(rules: Rules, bytes: &[u8]) -> Walk
     ensures walks { seen (only rules) (simple_item undefined_item) (length bytes.now)
         (passed bytes.now) ≡ walk_view bytes.now result }
     ensures within { IsWithin (length bytes.now) result }
+    ensures memory { EndsForMemory rules result }
 {
     if rules.no_undefined {
         Walk::Departed(Rule::NoUndefined, bytes.len())
@@ -283,6 +307,7 @@ fn half(rules: Rules, bytes: &[u8]) -> Walk
     ensures walks { Walks bytes.now (λ fuel. float_walk (only rules) half 25) result }
 
     ensures within { IsWithin (length bytes.now) result }
+    ensures memory { EndsForMemory rules result }
 {
     match number(25, bytes) {
         Some((bits, left)) => float(rules, Float::Half(bits as u16), left),
@@ -294,6 +319,7 @@ fn single(rules: Rules, bytes: &[u8]) -> Walk
     ensures walks { Walks bytes.now (λ fuel. float_walk (only rules) single 26) result }
 
     ensures within { IsWithin (length bytes.now) result }
+    ensures memory { EndsForMemory rules result }
 {
     match number(26, bytes) {
         Some((bits, left)) => float(rules, Float::Single(bits as u32), left),
@@ -305,6 +331,7 @@ fn double(rules: Rules, bytes: &[u8]) -> Walk
     ensures walks { Walks bytes.now (λ fuel. float_walk (only rules) double 27) result }
 
     ensures within { IsWithin (length bytes.now) result }
+    ensures memory { EndsForMemory rules result }
 {
     match number(27, bytes) {
         Some((bits, left)) => float(rules, Float::Double(bits), left),
@@ -325,7 +352,7 @@ fn float(rules: Rules, float: Float, left: usize) -> Walk
 /// The number after a first byte with these lower five bits, and how many bytes are after it.
 #[tactic(auto, using(crate::proofs::Walking::last_all), unfolding(cbor_model::specs::Reader::number_behind))]
 #[inline(always)]
-fn number(low: u8, bytes: &[u8]) -> Option<(u64, usize)>
+pub(crate) fn number(low: u8, bytes: &[u8]) -> Option<(u64, usize)>
     ensures { MatchOption result (StopsNumber low bytes.now) (IsNumber low bytes.now) }
 {
     match low {

@@ -21,7 +21,7 @@ use Rattle.cbor_tool.specs.declared.program.Mode.TheVariants.{Lenient, Strict, D
 use Rattle.cbor_tool.specs.declared.program.Mode.TheVariants.{DiagnosePretty, ByRules}
 use Rattle.cbor_tool.specs.declared.program.Preset.{Preset}
 use Rattle.cbor_tool.specs.declared.program.Preset.TheVariants.{Deterministic, LengthFirst}
-use Rattle.cbor_tool.specs.declared.program.Preset.TheVariants.{Ctap2, Dcbor}
+use Rattle.cbor_tool.specs.declared.program.Preset.TheVariants.{Ctap2, Dcbor, UniqueKeys}
 use Rattle.serde_cbor.specs.Presets as presets
 use Rattle.cbor_rules.specs.declared.settings.Rules.{Rules}
 use Rattle.cbor_tool.specs.declared.program.End.{End}
@@ -100,6 +100,7 @@ rules_of Deterministic = presets.deterministic
 rules_of LengthFirst = presets.length_first
 rules_of Ctap2 = presets.ctap2
 rules_of Dcbor = presets.dcbor
+rules_of UniqueKeys = presets.unique_keys
 
 -- the bytes spell the value, as it is read in each mode
 abbrev pub SpellsIn : Mode → List ℕ → Val → Type 0
@@ -155,6 +156,7 @@ words_of (ByRules Deterministic) = codes "deterministic" ∷ []
 words_of (ByRules LengthFirst) = codes "length-first" ∷ []
 words_of (ByRules Ctap2) = codes "ctap2" ∷ []
 words_of (ByRules Dcbor) = codes "dcbor" ∷ []
+words_of (ByRules UniqueKeys) = codes "unique-keys" ∷ []
 
 -- the mode of these words, or none where they are no mode's
 abbrev pub Chooses : List (List ℕ) → Option Mode → Type 0

@@ -21,8 +21,8 @@ use std::env;
 use std::io::{BufReader, ErrorKind};
 use std::process::ExitCode;
 
-const WORDS: &str =
-    "strict | deterministic | length-first | ctap2 | dcbor | [diagnose [--pretty]] [raw]";
+const WORDS: &str = "strict | deterministic | length-first | ctap2 | dcbor | unique-keys | \
+    [diagnose [--pretty]] [raw]";
 
 fn main(rt: HostRuntime) -> ExitCode {
     match answer_input(&rt) {

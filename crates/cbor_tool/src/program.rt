@@ -60,6 +60,8 @@ pub enum Preset {
     Ctap2,
     /// dCBOR.
     Dcbor,
+    /// Any, with no key of a map twice.
+    UniqueKeys,
 }
 
 impl Preset {
@@ -71,6 +73,7 @@ impl Preset {
             Preset::LengthFirst => Rules::LENGTH_FIRST,
             Preset::Ctap2 => Rules::CTAP2,
             Preset::Dcbor => Rules::DCBOR,
+            Preset::UniqueKeys => Rules::UNIQUE_KEYS,
         }
     }
 }

@@ -325,6 +325,17 @@ const BY_DCBOR: &[u8] = b"a218640020f6\nerror: key out of order at offset 5\n\
     error: float not the shortest at offset 9\na18000\nc100\nerror: undefined at offset 1\n\
     error: EOF while parsing a value at offset 1\nerror: not hexadecimal\n";
 
+const BY_UNIQUE_KEYS: &[u8] = b"a218640020f6\na220f6186400\nfb3ff8000000000000\na18000\nc100\n\
+    f7\nerror: EOF while parsing a value at offset 1\nerror: not hexadecimal\n";
+
+// The key 1 twice, in two encodings (RFC 8949, section 5.6); the other forms have other rules.
+#[test]
+fn refuses_a_key_twice(rt: HostRuntime) -> Result<()> {
+    let answer = answers_by_rules(rt.alloc(), Preset::UniqueKeys, b"a20100180100\n")?;
+    assert!(rt; answer.as_slice() == b"error: duplicate key at offset 5\n");
+    Ok(())
+}
+
 #[test]
 fn answers_each_line_by_rules(rt: HostRuntime) -> Result<()> {
     let alloc = rt.alloc();
@@ -333,6 +344,7 @@ fn answers_each_line_by_rules(rt: HostRuntime) -> Result<()> {
         (Preset::LengthFirst, BY_LENGTH_FIRST),
         (Preset::Ctap2, BY_CTAP2),
         (Preset::Dcbor, BY_DCBOR),
+        (Preset::UniqueKeys, BY_UNIQUE_KEYS),
     ];
     for (preset, output) in forms {
         assert!(rt; answers_by_rules(alloc, preset, FORMS)?.as_slice() == output);

@@ -8,7 +8,8 @@ use crate::program::{Mode, Preset};
 use crate::sequence::Form;
 
 /// The mode that the words choose: no word is lenient, `strict`, `diagnose` and `diagnose --pretty`
-/// choose those, and `deterministic`, `length-first`, `ctap2` and `dcbor` the rules of these forms.
+/// choose those, and `deterministic`, `length-first`, `ctap2`, `dcbor` and `unique-keys` the rules of these
+/// forms.
 /// Other words choose none.
 pub fn mode(words: &[String]) -> Option<Mode>
     ensures { Chooses (map string_bytes words.now) result }
@@ -21,6 +22,7 @@ pub fn mode(words: &[String]) -> Option<Mode>
         [word] if word.as_str() == "length-first" => Some(Mode::ByRules(Preset::LengthFirst)),
         [word] if word.as_str() == "ctap2" => Some(Mode::ByRules(Preset::Ctap2)),
         [word] if word.as_str() == "dcbor" => Some(Mode::ByRules(Preset::Dcbor)),
+        [word] if word.as_str() == "unique-keys" => Some(Mode::ByRules(Preset::UniqueKeys)),
         [word, option] if word.as_str() == "diagnose" && option.as_str() == "--pretty" => {
             Some(Mode::DiagnosePretty)
         }

@@ -13,3 +13,5 @@ mod keys;
 mod rules;
 #[cfg(test)]
 mod tags;
+#[cfg(test)]
+mod unique;

@@ -1,4 +1,5 @@
-use Rattle.std.proofs.Common.{◌≡◌, ◌≤◌, ◌-◌, ◌+◌, ◌*◌, ℕ, [], length}
+use Rattle.std.proofs.Common.{◌≡◌, ◌≤◌, ◌-◌, ◌+◌, ◌*◌, ℕ, List, [], length}
+use Rattle.cbor_rules.specs.PassedKeys.{HasPassed}
 use Rattle.cbor_rules.specs.Rules.{under}
 use Rattle.cbor_rules.specs.Walk.{all_walk, pairs_walk, walk}
 use Rattle.cbor_rules.specs.Walks.{last}
@@ -36,5 +37,5 @@ abbrev pub invariant-pairs-loop-i : goal.invariant-pairs-loop-i
 invariant-pairs-loop-i l = record {
   within : length l.rest ≤ length l.fn.bytes;
   is_last : l.rest ≡ last (length l.rest) l.fn.bytes;
-  so_far : (fuel : ℕ) → length l.fn.bytes ≤ fuel → pairs_walk (under l.fn.rules l.fn.tags) (walk (under l.fn.rules l.fn.tags) fuel) l.fn.is_open l.fn.n [] l.fn.bytes ≡ pairs_walk (under l.fn.rules l.fn.tags) (walk (under l.fn.rules l.fn.tags) fuel) l.fn.is_open (l.fn.n - l._i) l.before l.rest;
+  so_far : (earlier : List (List ℕ)) × HasPassed l.fn.rules l.keys earlier × ((fuel : ℕ) → length l.fn.bytes ≤ fuel → pairs_walk (under l.fn.rules l.fn.tags) (walk (under l.fn.rules l.fn.tags) fuel) l.fn.is_open l.fn.n [] l.fn.bytes ≡ pairs_walk (under l.fn.rules l.fn.tags) (walk (under l.fn.rules l.fn.tags) fuel) l.fn.is_open (l.fn.n - l._i) earlier l.rest);
 }

@@ -2,16 +2,17 @@ use Rattle.std.proofs.Common.{length}
 use Rattle.cbor_rules.specs.Rules.{first_departure, under}
 use Rattle.cbor_rules.specs.declared.walk.Walk.TheVariants.{Departed}
 use Rattle.cbor_rules.proofs.Told.{answered, reported, untold}
+use Rattle.cbor_rules.proofs.Walking.{had_memory}
 use Rattle.cbor_rules.proofs.walk.first_departure.Goals as goal
 
-pub returns-in-Departed : goal.returns-in-Departed
-returns-in-Departed c = λ r fits is.
+pub returns-in-Departed-clause-first : goal.returns-in-Departed-clause-first
+returns-in-Departed-clause-first c = λ r fits is.
     let bs = c.args.bytes.now in
     reported (length bs) (first_departure (under c.args.rules c.args.tags.now) r) c.in-Departed.rule c.in-Departed.left
-    (answered (under c.args.rules c.args.tags.now) bs r (Departed c.in-Departed.rule c.in-Departed.left) fits is c.in-Departed.ensures.walks)
+    (answered (under c.args.rules c.args.tags.now) bs r (Departed c.in-Departed.rule c.in-Departed.left) fits is c.in-Departed.ensures.walks tt)
 
-pub returns-in_default : goal.returns-in_default
-returns-in_default c = λ r fits is.
+pub returns-in_default-clause-first : goal.returns-in_default-clause-first
+returns-in_default-clause-first c = λ r fits is.
     let bs = c.args.bytes.now in
     untold (length bs) bs (first_departure (under c.args.rules c.args.tags.now) r) c.item.result c.in_default.not-Departed
-    (answered (under c.args.rules c.args.tags.now) bs r c.item.result fits is c.item.ensures.walks)
+    (answered (under c.args.rules c.args.tags.now) bs r c.item.result fits is c.item.ensures.walks (had_memory c.item.result c.in_default.not-NoMemory))

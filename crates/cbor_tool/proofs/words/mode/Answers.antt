@@ -12,8 +12,8 @@ returns-in-len1-2 c = one_word c.args.words.now c.word-item-then-words-lt2.resul
 pub returns-in-len2 : goal.returns-in-len2
 returns-in-len2 c = two_words c.args.words.now c.word-item-then-words-lt3.result c.option-item.result _ _ c.in-len2.len_at_least c.in-len2.len_below
     c.word-item-then-words-lt3.is c.option-item.is
-    (is_word c.word-item-then-words-lt3.result _ _ _ c.as_str-then-words-lt3.ensures.value c.eq-then-words-lt3.ensures c.if-eq-7.true)
-    (is_word c.option-item.result _ _ _ c.as_str-then-eq-7.ensures.value c.eq-then-eq-7.ensures c.if-eq-8.true)
+    (is_word c.word-item-then-words-lt3.result _ _ _ c.as_str-then-words-lt3.ensures.value c.eq-then-words-lt3.ensures c.if-eq-8.true)
+    (is_word c.option-item.result _ _ _ c.as_str-then-eq-8.ensures.value c.eq-then-eq-8.ensures c.if-eq-9.true)
 
 pub returns-in-len1-3 : goal.returns-in-len1-3
 returns-in-len1-3 c = one_word c.args.words.now c.word-item-then-words-lt2-2.result _ c.in-len1.len_at_least c.in-len1.len_below c.word-item-then-words-lt2-2.is
@@ -30,3 +30,7 @@ returns-in-len1-5 c = one_word c.args.words.now c.word-item-then-words-lt2-4.res
 pub returns-in-len1-6 : goal.returns-in-len1-6
 returns-in-len1-6 c = one_word c.args.words.now c.word-item-then-words-lt2-5.result _ c.in-len1.len_at_least c.in-len1.len_below c.word-item-then-words-lt2-5.is
     (is_word c.word-item-then-words-lt2-5.result _ _ _ c.as_str-then-words-lt2-5.ensures.value c.eq-then-words-lt2-5.ensures c.if-eq-6.true)
+
+pub returns-in-len1-7 : goal.returns-in-len1-7
+returns-in-len1-7 c = one_word c.args.words.now c.word-item-then-words-lt2-6.result _ c.in-len1.len_at_least c.in-len1.len_below c.word-item-then-words-lt2-6.is
+    (is_word c.word-item-then-words-lt2-6.result _ _ _ c.as_str-then-words-lt2-6.ensures.value c.eq-then-words-lt2-6.ensures c.if-eq-7.true)
