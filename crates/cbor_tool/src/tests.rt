@@ -332,7 +332,7 @@ const BY_UNIQUE_KEYS: &[u8] = b"a218640020f6\na220f6186400\nfb3ff8000000000000\n
 #[test]
 fn refuses_a_key_twice(rt: HostRuntime) -> Result<()> {
     let answer = answers_by_rules(rt.alloc(), Preset::UniqueKeys, b"a20100180100\n")?;
-    assert!(rt; answer.as_slice() == b"error: duplicate key at offset 5\n");
+    assert!(rt; answer.as_slice() == b"error: duplicate key at offset 5\n".as_slice());
     Ok(())
 }
 

@@ -16,22 +16,13 @@ use std::alloc::{AllocError, Global};
 use std::env;
 use std::fs::{File, OpenOptions};
 use std::io::BufReader;
-use std::process::ExitCode;
 
-fn main(rt: HostRuntime) -> ExitCode {
-    let Err(error) = run(&rt) else {
-        return ExitCode::SUCCESS;
-    };
-    let _ = eprintln!(rt; "use_content_store: {error}");
-    ExitCode::FAILURE
-}
-
-fn run(rt: &HostRuntime) -> Result<()> {
+fn main(rt: HostRuntime) -> Result<()> {
     let alloc = rt.alloc();
-    let Some(path) = env::args(rt)?.nth(1) else {
+    let Some(path) = env::args(&rt)?.nth(1) else {
         return Err(Error::message(alloc, "wants the path of a log"));
     };
-    let file = OpenOptions::new().read(true).append(true).open(rt, &path)?;
+    let file = OpenOptions::new().read(true).append(true).open(&rt, &path)?;
     let Opened { mut store, whole } = match open(alloc, BufReader::new(alloc, &file)?) {
         Ok(opened) => opened,
         Err(OpenError::Broken { error, .. }) => return Err(error),

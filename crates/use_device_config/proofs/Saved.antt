@@ -1,5 +1,5 @@
 -- How deep a configuration nests, and which numbers it has.
-use Rattle.std.proofs.Common.{◌<◌, ◌^◌, ℕ, Vec, Bool, Option, Some, None, string_bytes, arith}
+use Rattle.std.proofs.Common.{◌≡◌, ◌<◌, refl, ◌^◌, ℕ, Vec, Bool, Option, Some, None, string_bytes, arith}
 use Rattle.std.specs.Prelude.{IfSome, String}
 use Rattle.std.specs.Global.{Global}
 use Rattle.serde_cbor.specs.Document.{IsStorableDocument, text}
@@ -38,6 +38,10 @@ config_nests c = structure_nests 3 _
 abbrev pub IsInRange : Mode → Type 0
 IsInRange Idle = Unit {0}
 IsInRange (Every n) = n < 2 ^ 32
+
+pub other_is : (m : Mode) → ((n : ℕ) → m ≡ Every n → ⊥) → IsInRange m
+other_is Idle other = tt
+other_is (Every n) other = absurd (other n refl)
 
 module _ (channels : Vec ℕ Global) (verbose : Bool) (bytes : AreBytes channels.items) where
   pub fits : (m : Mode) (name : Option (String Global)) → IsInRange m

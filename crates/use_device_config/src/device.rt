@@ -55,8 +55,16 @@ impl Device {
         ensures accepted { (config : Config)
             → (said : Says (⟦<Config as Readable>⟧.reads from_slice_context) bytes.now config)
             → FitsScratch (Some (length scratch.old)) said.item → IfErr result IsOutOfMemory }
+        // A field of a later version, which has no name here, is passed over.
+        ensures new_fields { PassesOverNewFields ⟦<Config as Schema>⟧.names
+            (⟦<Config as Readable>⟧.reads from_slice_context) }
     {
-        self.config = read(alloc, bytes, scratch)?;
+        item_taken::<Config>();
+        let de = Deserializer::from_slice_with_scratch(alloc, bytes, scratch);
+        let mut de = de.nesting_limit(LEVELS);
+        let config = Config::deserialize(&mut de)?;
+        de.end()?;
+        self.config = config;
         Ok(())
     }
 
@@ -87,37 +95,13 @@ impl Device {
     }
 }
 
-/// A field of a later version, which has no name here, is passed over.
-pub fn new_fields_are_passed_over()
-    ensures { PassesOverNewFields ⟦<Config as Schema>⟧.names
-        (⟦<Config as Readable>⟧.reads from_slice_context) }
-{}
-
-// The configuration that the bytes say.
-fn read(alloc: Global, bytes: &[u8], scratch: &mut [u8]) -> Result<Config>
-    ensures says { IfOk result
-        (Says (⟦<Config as Readable>⟧.reads from_slice_context) bytes.now) }
-    ensures accepted { (config : Config)
-        → (said : Says (⟦<Config as Readable>⟧.reads from_slice_context) bytes.now config)
-        → FitsScratch (Some (length scratch.old)) said.item → IfErr result IsOutOfMemory }
-{
-    item_taken::<Config>();
-    let mut de = Deserializer::from_slice_with_scratch(alloc, bytes, scratch).nesting_limit(LEVELS);
-    let config = Config::deserialize(&mut de)?;
-    de.end()?;
-    Ok(config)
-}
-
 // Tells a proof that each number of the configuration is in its type's range.
 fn are_in_range(config: &Config)
     ensures fits { ⟦<Config as RoundTrip>⟧.law.fits config.now }
     ensures storable { IsStorableDocument (⟦<Config as Serialize>⟧.document config.now) }
 {
-    match &config.mode {
-        Mode::Idle => {}
-        Mode::Every(seconds) => {
-            let _seconds = *seconds;
-        }
+    if let Mode::Every(seconds) = &config.mode {
+        let _seconds = *seconds;
     }
     are_bytes(config.channels.as_slice());
 }

@@ -9,17 +9,8 @@ use device::Device;
 use hex::FromHexError;
 use serde_cbor::Result;
 use std::alloc::AllocError;
-use std::process::ExitCode;
 
-fn main(rt: HostRuntime) -> ExitCode {
-    let Err(error) = configure(&rt) else {
-        return ExitCode::SUCCESS;
-    };
-    let _ = eprintln!(rt; "use_device_config: {error}");
-    ExitCode::FAILURE
-}
-
-fn configure(rt: &HostRuntime) -> Result<()> {
+fn main(rt: HostRuntime) -> Result<()> {
     let alloc = rt.alloc();
     let mut device = Device::new(alloc);
     // As many bytes of a text in chunks are joined.
@@ -38,8 +29,7 @@ fn configure(rt: &HostRuntime) -> Result<()> {
         }
         println!(rt; "{:?}", device.config)?;
     }
-    let saved = device.save(alloc)?;
-    println!(rt; "saves {}", hex::encode(alloc, &saved)?)?;
+    println!(rt; "saves {}", hex::encode(alloc, &device.save(alloc)?)?)?;
     println!(rt; "a copy: {:?}", device.copy(alloc)?.config)?;
     Ok(())
 }
