@@ -4,15 +4,13 @@ ghost use Rattle.std.specs.Prelude.{OnOk};
 ghost use Rattle.cbor_model.specs.Plain.{Val};
 ghost use Rattle.cbor_strict.specs.Strict.{SpellsCanonically};
 
-use crate::kept::Kept;
 use cbor_de::IgnoredAny;
 use cbor_io::error::Result;
 use cbor_serde_de::Cbor;
 use cbor_serde_options::Options;
 use cbor_strict::from_slice_canonical_as;
-use serde::{Deserialize, DeserializeOwned, Deserializer};
+use serde::{Deserialize, Deserializer};
 use std::alloc::Global;
-use std::io;
 
 /// What the one item that the bytes encode is read as. A borrowed string is lent by the slice.
 ///
@@ -92,50 +90,4 @@ fn is_canonical(alloc: Global, bytes: &[u8]) -> Result<()>
         Ok(_passed) => Ok(()),
         Err(error) => Err(error),
     }
-}
-
-/// What the one item that a reader gives is read as. The bytes of the item are taken to memory
-/// while `T` reads them, and one byte more is asked for, to see that none follows: give it a `take`
-/// where an item may be too long, and a `BufReader` where asking for a few bytes is dear.
-///
-/// It refuses as [`from_slice`] does, and with `Io` where the reader fails.
-/// [`Stream`](crate::Stream) reads items that follow one another.
-///
-/// ```rust
-/// let number: u8 = from_reader(alloc, b"\x18\x2a".as_slice())?;
-/// assert_eq!(rt; number, 42);
-/// ```
-pub fn from_reader<R: io::Read + Drop, T: DeserializeOwned>(alloc: Global, reader: R) -> Result<T> {
-    from_reader_with(Options::new(), alloc, reader)
-}
-
-/// What the one item that a reader gives is read as by these options, as by [`from_reader`].
-pub fn from_reader_with<R: io::Read + Drop, T: DeserializeOwned>(
-    options: Options,
-    alloc: Global,
-    reader: R,
-) -> Result<T> {
-    let mut kept = Kept::new(alloc, reader);
-    let passed = kept.pass(options, alloc, true);
-    kept.read(options, alloc, passed)
-}
-
-/// What the bytes are read as, of which nothing is borrowed.
-pub(crate) fn from_bytes<T: DeserializeOwned>(
-    options: Options,
-    alloc: Global,
-    bytes: &[u8],
-) -> Result<T> {
-    let mut format = Cbor::new(alloc, bytes, options);
-    let value = read_owned(alloc, bytes, &mut format)?;
-    format.end()?;
-    Ok(value)
-}
-
-fn read_owned<T: DeserializeOwned>(
-    alloc: Global,
-    bytes: &[u8],
-    format: &mut Cbor<'_>,
-) -> Result<T> {
-    T::deserialize_owned(alloc, &mut Deserializer::new(bytes, format))
 }

@@ -18,22 +18,17 @@
 
 pub mod bytes;
 mod de;
-mod kept;
 mod ser;
-mod stream;
 mod value;
 
 pub use cbor_io::error::{Category, Error, ErrorCode, Result};
 pub use cbor_io::write::{IoWrite, SliceWrite, Write};
+pub use cbor_serde_de::{Stream, from_reader, from_reader_with};
 pub use cbor_serde_options::Options;
 pub use cbor_serde_value::{FloatItem, Item};
 pub use cbor_value::{Float, Value};
-pub use de::{
-    from_reader, from_reader_with, from_slice, from_slice_canonical, from_slice_canonical_with,
-    from_slice_with,
-};
+pub use de::{from_slice, from_slice_canonical, from_slice_canonical_with, from_slice_with};
 pub use ser::{
     to_vec, to_vec_canonical, to_vec_canonical_with, to_vec_with, to_writer, to_writer_with,
 };
-pub use stream::Stream;
 pub use value::{from_value, from_value_with, to_value, to_value_with};

@@ -6,9 +6,9 @@ ghost use Rattle.cbor_value.specs.View.{view};
 ghost use Rattle.cbor_serde_options.specs.Defaults.{default_options};
 ghost use Rattle.cbor_serde.specs.Item.{IsValueOf};
 
-use crate::de::from_bytes;
 use crate::ser::to_vec_with;
 use cbor_io::error::Result;
+use cbor_serde_de::from_bytes;
 use cbor_serde_options::Options;
 use cbor_value::Value;
 use serde::{DeserializeOwned, Serialize};

@@ -1,11 +1,18 @@
 //! Reading CBOR for the kit's `serde`: [`Cbor`] is a `Format` over a slice.
 //!
-//! `specs/Given.antt` says what each step read.
+//! `specs/Given.antt` says what each step read. [`from_reader`] and [`Stream`] read types from what
+//! a reader gives: `specs/Fronts.antt` and `specs/Streams.antt` say what is taken, and why not.
 #![tactic(auto)]
 
 mod cbor;
 mod format;
+mod from;
+mod kept;
 mod kind;
+mod outline;
 mod places;
+mod stream;
 
 pub use cbor::{Cbor, Mark};
+pub use from::{from_bytes, from_reader, from_reader_with};
+pub use stream::Stream;
