@@ -20,6 +20,7 @@ pub mod Structs
 pub mod NewFieldPassed
 pub mod StructLoops
 pub mod Enums
+pub mod AtHand
 pub mod ItemLists
 pub mod StreamSteps
 pub mod Taken

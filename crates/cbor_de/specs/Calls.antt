@@ -1,7 +1,7 @@
 -- The words for a call on a deserializer, which is seen before and after it: those of `Takes` and
 -- `Forms`, of the inputs that its source stands for, the levels that are left and the formats that are
 -- read.
-use Rattle.std.specs.Prelude.{◌≡◌, ◌<◌, ℕ, Bool, Result, Ok, Err}
+use Rattle.std.specs.Prelude.{◌≡◌, ◌<◌, ℕ, Bool, Result, Ok, Err, Option}
 use Rattle.cbor_model.specs.Raw.{Raw}
 use Rattle.cbor_io.specs.declared.error.Error.{Error}
 use Rattle.cbor_io.specs.declared.read_error.ReadErrorCode.{ReadErrorCode}
@@ -20,6 +20,13 @@ abbrev pub TakesItem : {R A : Type 0} → (R → Input) → (ReadErrorCode → B
     → Deserializer R → Deserializer R → Result A Error → Type 0
 TakesItem seen refusals reads old new result =
     decoder.TakesItem seen refusals reads old.decoder new.decoder result
+
+-- what a call gave for the item at the front where it looked at the bytes at hand alone; or that it took
+-- nothing
+abbrev pub TakesAtHand : {R A : Type 0} → (R → Input) → (ReadErrorCode → Bool) → (Raw → A → Type 0)
+    → Deserializer R → Deserializer R → Option A → Type 0
+TakesAtHand seen refusals reads old new result =
+    decoder.TakesAtHand seen refusals reads old.decoder new.decoder result
 
 -- a byte at the least was taken
 abbrev pub Advances : {R : Type 0} → (R → Input) → Deserializer R → Deserializer R → Type 0

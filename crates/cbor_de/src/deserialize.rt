@@ -1,6 +1,6 @@
 //! Types that are read.
 
-ghost use Rattle.std.specs.Prelude.{IfErr, OnOk};
+ghost use Rattle.std.specs.Prelude.{IfErr, OnOk, OnSome};
 ghost use Rattle.cbor_read.specs.Source.{asks_for};
 ghost use Rattle.cbor_decode.specs.Decoder.{SameSettings};
 ghost use Rattle.cbor_decode_as.specs.Takes.{context};
@@ -8,7 +8,7 @@ ghost use Rattle.cbor_de.specs.Calls as call;
 
 use crate::de::Deserializer;
 use cbor_io::error::Result;
-use cbor_read::Read;
+use cbor_read::{Read, Source};
 
 /// What a type reads, whatever the source.
 ///
@@ -47,6 +47,22 @@ pub trait Readable: Sized + Drop {
     ghost wrong_forms: { WrongForms } = { any_form };
 
     ghost passes_over: { Bool } = { false };
+
+    /// Reads the item at the front, if the bytes at hand show that it is one that the type reads.
+    /// None where they don't, and then nothing is taken: `deserialize` reads the item or refuses it.
+    ///
+    /// Lists and tuples call it first for each item, since it answers without room for an error. A
+    /// type of one's own needs none: it is None unless a type says otherwise.
+    #[inline(always)]
+    fn at_hand<R: Source>(de: &mut Deserializer<R>) -> Option<Self>
+        ensures read { call.TakesAtHand R.source R.refusals
+            (reads (context de.old.decoder.formats R.lends)) de.old de.new result }
+        ensures taken { OnSome result (call.Advances R.source de.old de.new) }
+        ensures settings { SameSettings de.old.decoder de.new.decoder }
+    {
+        let _ = de;
+        None
+    }
 }
 
 /// A type that is read from a source.

@@ -173,7 +173,10 @@ fn next_part<'de, R: Read<'de>, T: Deserialize<'de, R>>(
     ensures settings { SameSettings de.old.decoder de.new.decoder }
 {
     match more_items(&mut de.decoder, remaining) {
-        Ok(true) => T::deserialize(de),
+        Ok(true) => match T::at_hand(de) {
+            Some(item) => Ok(item),
+            None => T::deserialize(de),
+        },
         Ok(false) => Err(invalid_length(de.decoder.alloc, before, expected)),
         Err(e) => Err(e),
     }

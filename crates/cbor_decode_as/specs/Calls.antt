@@ -1,6 +1,6 @@
 -- The words for a call on a decoder, which is seen before and after it: those of `Takes`, of the inputs
 -- that its source stands for, the levels that are left and the formats that are read.
-use Rattle.std.specs.Prelude.{Bool, Result}
+use Rattle.std.specs.Prelude.{◌≡◌, Bool, Result, Ok, Option, Some, None}
 use Rattle.cbor_model.specs.Raw.{Raw}
 use Rattle.cbor_io.specs.declared.error.Error.{Error}
 use Rattle.cbor_io.specs.declared.read_error.ReadErrorCode.{ReadErrorCode}
@@ -14,6 +14,13 @@ abbrev pub TakesItem : {R A : Type 0} → (R → Input) → (ReadErrorCode → B
     → Decoder R → Decoder R → Result A Error → Type 0
 TakesItem seen refusals reads old new result =
     input.TakesItem refusals (formats_of old.formats) reads old.levels (seen old.source) (seen new.source) result
+
+-- what a call gave for the item at the front where it looked at the bytes at hand alone; or that it took
+-- nothing
+abbrev pub TakesAtHand : {R A : Type 0} → (R → Input) → (ReadErrorCode → Bool) → (Raw → A → Type 0)
+    → Decoder R → Decoder R → Option A → Type 0
+TakesAtHand seen refusals reads old new (Some x) = TakesItem seen refusals reads old new (Ok x)
+TakesAtHand seen refusals reads old new None = seen new.source ≡ seen old.source
 
 -- Where memory ran out, the item that is read as something is one for which memory may be asked.
 abbrev pub MemoryFor : {R A : Type 0} → (R → Input) → (Raw → Type 0) → (Raw → A → Type 0)

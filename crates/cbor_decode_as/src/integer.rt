@@ -1,7 +1,7 @@
 //! Whole numbers (RFC 7049, section 2.1, major types 0 and 1).
 
 ghost use Rattle.std.specs.Prelude.{◌≡◌, ◌≤◌, ◌<◌, ◌-◌, ◌^◌, ℕ, ℤ, pos, negsuc, IfOk, IfErr};
-ghost use Rattle.std.specs.Prelude.{MatchOption, OnOk};
+ghost use Rattle.std.specs.Prelude.{MatchOption, OnOk, OnSome, IfSome};
 ghost use Rattle.cbor_model.specs.Readable.{PassesTags, IsInteger, IsFromZero, IsSigned, IsWithin};
 ghost use Rattle.cbor_io.specs.Error.{code_of};
 ghost use Rattle.cbor_decode.specs.Decoder.{SameSettings};
@@ -104,6 +104,22 @@ pub fn read_integer<R: Source>(decoder: &mut Decoder<R>) -> Result<i128>
     }
 }
 
+/// Reads a number from 0 to the most that is whole at hand, without tags. None where another item
+/// comes, or its end isn't at hand; then nothing is taken.
+#[inline(always)]
+pub fn from_zero_at_hand<R: Source>(decoder: &mut Decoder<R>, most: u64) -> Option<u64>
+    ensures read { call.TakesAtHand R.source R.refusals (PassesTags (IsFromZero most))
+        decoder.old decoder.new result }
+    ensures taken { OnSome result (step.Advances R.source decoder.old decoder.new) }
+    ensures bound { IfSome result (λ n. n ≤ most) }
+    ensures settings { SameSettings decoder.old decoder.new }
+{
+    match decoder.unsigned(most) {
+        Some(number) => Some(number),
+        None => None,
+    }
+}
+
 /// Reads a number from 0 to the most; the message is for another number. It refuses as
 /// [`read_integer`] does.
 #[inline(always)]
@@ -122,7 +138,7 @@ pub fn read_from_zero<R: Source>(
         (call.TakesNoMemory R.source (PassesTags (IsFromZero most)) decoder.old) }
     ensures settings { SameSettings decoder.old decoder.new }
 {
-    match decoder.unsigned(most) {
+    match from_zero_at_hand(decoder, most) {
         Some(number) => Ok(number),
         None => from_zero_slow(decoder, most, message),
     }
@@ -191,6 +207,25 @@ pub fn read_u128<R: Source>(decoder: &mut Decoder<R>) -> Result<u128>
     }
 }
 
+/// Reads a number from -1 - most to the most that is whole at hand, as [`from_zero_at_hand`] does.
+#[inline(always)]
+pub fn signed_at_hand<R: Source>(decoder: &mut Decoder<R>, most: u64) -> Option<i64>
+    requires { most < 2 ^ 63 }
+    ensures read { call.TakesAtHand R.source R.refusals (PassesTags (IsSigned most))
+        decoder.old decoder.new result }
+    ensures taken { OnSome result (step.Advances R.source decoder.old decoder.new) }
+    ensures bounds { IfSome result (IsWithin most) }
+    ensures settings { SameSettings decoder.old decoder.new }
+{
+    if let Some(number) = decoder.unsigned(most) {
+        return Some(number as i64);
+    }
+    match decoder.negative(most) {
+        Some(number) => Some(below_zero(number)),
+        None => None,
+    }
+}
+
 /// Reads a number from -1 - most to the most; the message is for another number. It refuses as
 /// [`read_integer`] does.
 #[inline(always)]
@@ -210,11 +245,8 @@ pub fn read_signed<R: Source>(
         (call.TakesNoMemory R.source (PassesTags (IsSigned most)) decoder.old) }
     ensures settings { SameSettings decoder.old decoder.new }
 {
-    if let Some(number) = decoder.unsigned(most) {
-        return Ok(number as i64);
-    }
-    match decoder.negative(most) {
-        Some(number) => Ok(below_zero(number)),
+    match signed_at_hand(decoder, most) {
+        Some(number) => Ok(number),
         None => signed_slow(decoder, most, message),
     }
 }

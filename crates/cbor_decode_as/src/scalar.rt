@@ -1,6 +1,6 @@
 //! Simple values and numbers.
 
-ghost use Rattle.std.specs.Prelude.{IfErr, OnOk};
+ghost use Rattle.std.specs.Prelude.{IfErr, OnOk, OnSome};
 ghost use Rattle.cbor_model.specs.Readable.{PassesTags, IsBool, IsUnit};
 ghost use Rattle.cbor_io.specs.Error.{code_of};
 ghost use Rattle.cbor_decode.specs.Decoder.{SameSettings};
@@ -67,6 +67,21 @@ fn scalar_head_inside<R: Source>(decoder: &mut Decoder<R>) -> Done<HeadAt>
     }
 }
 
+/// Reads false or true, without tags. None where another item comes, or none is at hand; then
+/// nothing is taken.
+#[inline(always)]
+pub fn bool_at_hand<R: Source>(decoder: &mut Decoder<R>) -> Option<bool>
+    ensures read { call.TakesAtHand R.source R.refusals (PassesTags IsBool)
+        decoder.old decoder.new result }
+    ensures taken { OnSome result (step.Advances R.source decoder.old decoder.new) }
+    ensures settings { SameSettings decoder.old decoder.new }
+{
+    match decoder.boolean() {
+        Some(b) => Some(b),
+        None => None,
+    }
+}
+
 /// Reads false or true (RFC 7049, section 2.3).
 ///
 /// What isn't whole is refused by its fault, and another item by a message.
@@ -80,7 +95,7 @@ pub fn read_bool<R: Source>(decoder: &mut Decoder<R>) -> Result<bool>
     ensures memory { IfErr result (call.TakesNoMemory R.source (PassesTags IsBool) decoder.old) }
     ensures settings { SameSettings decoder.old decoder.new }
 {
-    match decoder.boolean() {
+    match bool_at_hand(decoder) {
         Some(b) => Ok(b),
         None => bool_slow(decoder),
     }

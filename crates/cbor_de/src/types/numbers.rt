@@ -2,9 +2,11 @@
 
 use crate::de::Deserializer;
 use crate::deserialize::{Deserialize, DeserializeOwned, Readable};
-use cbor_decode_as::integer::{read_from_zero, read_signed, read_u128};
+use cbor_decode_as::integer::{
+    from_zero_at_hand, read_from_zero, read_signed, read_u128, signed_at_hand,
+};
 use cbor_io::error::Result;
-use cbor_read::Read;
+use cbor_read::{Read, Source};
 
 impl Readable for u8 {
     ghost use Rattle.std.specs.Prelude.{◌-◌, ◌^◌, true};
@@ -18,6 +20,14 @@ impl Readable for u8 {
     ghost wrong_forms = { never };
 
     ghost passes_over = { true };
+
+    #[inline(always)]
+    fn at_hand<R: Source>(de: &mut Deserializer<R>) -> Option<u8> {
+        match from_zero_at_hand(&mut de.decoder, u8::MAX as u64) {
+            Some(number) => Some(number as u8),
+            None => None,
+        }
+    }
 }
 
 impl<'de, R: Read<'de>> Deserialize<'de, R> for u8 {
@@ -50,6 +60,14 @@ impl Readable for u16 {
     ghost wrong_forms = { never };
 
     ghost passes_over = { true };
+
+    #[inline(always)]
+    fn at_hand<R: Source>(de: &mut Deserializer<R>) -> Option<u16> {
+        match from_zero_at_hand(&mut de.decoder, u16::MAX as u64) {
+            Some(number) => Some(number as u16),
+            None => None,
+        }
+    }
 }
 
 impl<'de, R: Read<'de>> Deserialize<'de, R> for u16 {
@@ -82,6 +100,14 @@ impl Readable for u32 {
     ghost wrong_forms = { never };
 
     ghost passes_over = { true };
+
+    #[inline(always)]
+    fn at_hand<R: Source>(de: &mut Deserializer<R>) -> Option<u32> {
+        match from_zero_at_hand(&mut de.decoder, u32::MAX as u64) {
+            Some(number) => Some(number as u32),
+            None => None,
+        }
+    }
 }
 
 impl<'de, R: Read<'de>> Deserialize<'de, R> for u32 {
@@ -114,6 +140,14 @@ impl Readable for u64 {
     ghost wrong_forms = { never };
 
     ghost passes_over = { true };
+
+    #[inline(always)]
+    fn at_hand<R: Source>(de: &mut Deserializer<R>) -> Option<u64> {
+        match from_zero_at_hand(&mut de.decoder, u64::MAX as u64) {
+            Some(number) => Some(number as u64),
+            None => None,
+        }
+    }
 }
 
 impl<'de, R: Read<'de>> Deserialize<'de, R> for u64 {
@@ -146,6 +180,14 @@ impl Readable for usize {
     ghost wrong_forms = { never };
 
     ghost passes_over = { true };
+
+    #[inline(always)]
+    fn at_hand<R: Source>(de: &mut Deserializer<R>) -> Option<usize> {
+        match from_zero_at_hand(&mut de.decoder, usize::MAX as u64) {
+            Some(number) => Some(number as usize),
+            None => None,
+        }
+    }
 }
 
 impl<'de, R: Read<'de>> Deserialize<'de, R> for usize {
@@ -178,6 +220,14 @@ impl Readable for i8 {
     ghost wrong_forms = { never };
 
     ghost passes_over = { true };
+
+    #[inline(always)]
+    fn at_hand<R: Source>(de: &mut Deserializer<R>) -> Option<i8> {
+        match signed_at_hand(&mut de.decoder, i8::MAX as u64) {
+            Some(number) => Some(number as i8),
+            None => None,
+        }
+    }
 }
 
 impl<'de, R: Read<'de>> Deserialize<'de, R> for i8 {
@@ -210,6 +260,14 @@ impl Readable for i16 {
     ghost wrong_forms = { never };
 
     ghost passes_over = { true };
+
+    #[inline(always)]
+    fn at_hand<R: Source>(de: &mut Deserializer<R>) -> Option<i16> {
+        match signed_at_hand(&mut de.decoder, i16::MAX as u64) {
+            Some(number) => Some(number as i16),
+            None => None,
+        }
+    }
 }
 
 impl<'de, R: Read<'de>> Deserialize<'de, R> for i16 {
@@ -242,6 +300,14 @@ impl Readable for i32 {
     ghost wrong_forms = { never };
 
     ghost passes_over = { true };
+
+    #[inline(always)]
+    fn at_hand<R: Source>(de: &mut Deserializer<R>) -> Option<i32> {
+        match signed_at_hand(&mut de.decoder, i32::MAX as u64) {
+            Some(number) => Some(number as i32),
+            None => None,
+        }
+    }
 }
 
 impl<'de, R: Read<'de>> Deserialize<'de, R> for i32 {
@@ -274,6 +340,14 @@ impl Readable for i64 {
     ghost wrong_forms = { never };
 
     ghost passes_over = { true };
+
+    #[inline(always)]
+    fn at_hand<R: Source>(de: &mut Deserializer<R>) -> Option<i64> {
+        match signed_at_hand(&mut de.decoder, i64::MAX as u64) {
+            Some(number) => Some(number as i64),
+            None => None,
+        }
+    }
 }
 
 impl<'de, R: Read<'de>> Deserialize<'de, R> for i64 {
@@ -306,6 +380,14 @@ impl Readable for isize {
     ghost wrong_forms = { never };
 
     ghost passes_over = { true };
+
+    #[inline(always)]
+    fn at_hand<R: Source>(de: &mut Deserializer<R>) -> Option<isize> {
+        match signed_at_hand(&mut de.decoder, isize::MAX as u64) {
+            Some(number) => Some(number as isize),
+            None => None,
+        }
+    }
 }
 
 impl<'de, R: Read<'de>> Deserialize<'de, R> for isize {

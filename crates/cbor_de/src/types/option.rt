@@ -2,9 +2,9 @@
 
 use crate::de::Deserializer;
 use crate::deserialize::{Deserialize, DeserializeOwned, Readable};
-use cbor_decode_as::null::take_null;
+use cbor_decode_as::null::{null_at_hand, take_null};
 use cbor_io::error::Result;
-use cbor_read::Read;
+use cbor_read::{Read, Source};
 
 // Null is None, by its first byte alone: neither undefined nor a tagged null is.
 impl<T: Readable> Readable for Option<T> {
@@ -18,6 +18,19 @@ impl<T: Readable> Readable for Option<T> {
     ghost wrong_forms = { T.wrong_forms };
 
     ghost passes_over = { T.passes_over };
+
+    #[inline(always)]
+    fn at_hand<R: Source>(de: &mut Deserializer<R>) -> Option<Option<T>> {
+        match null_at_hand(&mut de.decoder) {
+            Some(true) => return Some(None),
+            Some(false) => {}
+            None => return None,
+        }
+        match T::at_hand(de) {
+            Some(value) => Some(Some(value)),
+            None => None,
+        }
+    }
 }
 
 impl<'de, R: Read<'de>, T: Deserialize<'de, R>> Deserialize<'de, R> for Option<T> {

@@ -36,9 +36,12 @@ impl<'de, R: Read<'de>, T: Deserialize<'de, R>> Deserialize<'de, R> for Vec<T> {
                 Ok(false) => break,
                 Err(refused) => return Err(access.refused(refused)),
             }
-            let item = match T::deserialize(access.de) {
-                Ok(item) => item,
-                Err(e) => return Err(access.refuse(e)),
+            let item = match T::at_hand(access.de) {
+                Some(item) => item,
+                None => match T::deserialize(access.de) {
+                    Ok(item) => item,
+                    Err(e) => return Err(access.refuse(e)),
+                },
             };
             if push_any(&mut items, item, access.remaining).is_err() {
                 return Err(access.refuse(Error::from(AllocError)));

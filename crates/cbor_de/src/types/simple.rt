@@ -2,8 +2,9 @@
 
 use crate::de::Deserializer;
 use crate::deserialize::{Deserialize, DeserializeOwned, Readable};
+use cbor_decode_as::scalar::bool_at_hand;
 use cbor_io::error::Result;
-use cbor_read::Read;
+use cbor_read::{Read, Source};
 use cbor_value::Float;
 
 impl Readable for bool {
@@ -18,6 +19,11 @@ impl Readable for bool {
     ghost wrong_forms = { never };
 
     ghost passes_over = { true };
+
+    #[inline(always)]
+    fn at_hand<R: Source>(de: &mut Deserializer<R>) -> Option<bool> {
+        bool_at_hand(&mut de.decoder)
+    }
 }
 
 impl<'de, R: Read<'de>> Deserialize<'de, R> for bool {

@@ -1,17 +1,34 @@
+use Rattle.std.proofs.Common.{Ok}
 use Rattle.cbor_decode.specs.declared.formats.Formats.{Formats}
 use Rattle.cbor_decode_as.specs.Takes.{context}
+use Rattle.cbor_de.proofs.AtHand.{read_here, forms_here}
 use Rattle.cbor_de.proofs.ItemLists.{part_answer}
 use Rattle.cbor_de.proofs.Forms.{later_err}
 use Rattle.cbor_de.proofs.item_list.next_part.Goals as goal
 
-pub returns-in-Ok-true-clause-read : goal.returns-in-Ok-true-clause-read
-returns-in-Ok-true-clause-read g c =
+pub returns-in-Some-clause-read : goal.returns-in-Some-clause-read
+returns-in-Some-clause-read g c =
     let old = c.args.de.now.decoder in
     let mid = c.more_items.new.decoder in
     part_answer (λ (f : Formats). g.T.Readable.reads (context f g.R.Source.lends)) old.formats mid.formats old.levels mid.levels c.more_items.ensures.settings.formats c.more_items.ensures.settings.levels
-    (g.R.Source.source old.source) (g.R.Source.source mid.source) (g.R.Source.source c.deserialize.new.de.decoder.source) c.args.remaining.now c.more_items.new.remaining c.in-Ok-true.field-0 c.in-Ok-true.field-0-test g.R.Source.refusals
-    c.in-Ok-true.ensures.read c.deserialize.result c.deserialize.ensures.read
+    (g.R.Source.source old.source) (g.R.Source.source mid.source) (g.R.Source.source c.at_hand.new.de.decoder.source) c.args.remaining.now c.more_items.new.remaining c.in-Ok-true.field-0 c.in-Ok-true.field-0-test g.R.Source.refusals
+    c.in-Ok-true.ensures.read (Ok c.in-Some.item) c.in-Some.ensures.read
 
-pub returns-in-Ok-true-clause-form : goal.returns-in-Ok-true-clause-form
-returns-in-Ok-true-clause-form g c =
-    later_err g.T.Readable.wrong_forms c.args.de.now.decoder.formats c.more_items.new.decoder.formats _ _ c.deserialize.result c.more_items.ensures.settings.formats c.in-Ok-true.ensures.read.took c.deserialize.ensures.form
+pub returns-in-None-clause-read : goal.returns-in-None-clause-read
+returns-in-None-clause-read g c =
+    let old = c.args.de.now.decoder in
+    let mid = c.more_items.new.decoder in
+    let same = c.at_hand.new.de.decoder in
+    let t = g.R.Source.source c.deserialize.new.de.decoder.source in
+    let reads = λ (f : Formats). g.T.Readable.reads (context f g.R.Source.lends) in
+    let read = read_here mid.formats same.formats c.in-None.ensures.settings.formats (g.R.Source.source mid.source) (g.R.Source.source same.source) c.in-None.ensures.read g.R.Source.refusals reads mid.levels same.levels c.in-None.ensures.settings.levels t c.deserialize.result c.deserialize.ensures.read in
+    part_answer reads old.formats mid.formats old.levels mid.levels c.more_items.ensures.settings.formats c.more_items.ensures.settings.levels
+    (g.R.Source.source old.source) (g.R.Source.source mid.source) t c.args.remaining.now c.more_items.new.remaining c.in-Ok-true.field-0 c.in-Ok-true.field-0-test g.R.Source.refusals
+    c.in-Ok-true.ensures.read c.deserialize.result read
+
+pub returns-in-None-clause-form : goal.returns-in-None-clause-form
+returns-in-None-clause-form g c =
+    let mid = c.more_items.new.decoder in
+    let same = c.at_hand.new.de.decoder in
+    let form = forms_here mid.formats same.formats c.in-None.ensures.settings.formats (g.R.Source.source mid.source) (g.R.Source.source same.source) c.in-None.ensures.read g.T.Readable.wrong_forms c.deserialize.result c.deserialize.ensures.form in
+    later_err g.T.Readable.wrong_forms c.args.de.now.decoder.formats mid.formats _ _ c.deserialize.result c.more_items.ensures.settings.formats c.in-Ok-true.ensures.read.took form

@@ -4,7 +4,7 @@ use Rattle.cbor_decode.specs.declared.head.Head.TheVariants.{Unsigned}
 use Rattle.cbor_decode_as.specs.Takes.{formats_of}
 use Rattle.cbor_decode_as.proofs.heads.Opened.{head_opens, no_tag}
 use Rattle.cbor_decode_as.proofs.numbers.Numbers.{number_read}
-use Rattle.cbor_decode_as.proofs.integer.read_from_zero.Goals as goal
+use Rattle.cbor_decode_as.proofs.integer.from_zero_at_hand.Goals as goal
 
 pub returns-in-Some-clause-read : goal.returns-in-Some-clause-read
 returns-in-Some-clause-read g c =

@@ -3,7 +3,7 @@ use Rattle.cbor_decode.specs.declared.head.Head.TheVariants.{Bool as BoolHead}
 use Rattle.cbor_decode_as.specs.Takes.{formats_of}
 use Rattle.cbor_decode_as.proofs.heads.Opened.{head_opens, no_tag}
 use Rattle.cbor_decode_as.proofs.numbers.Scalars.{bool_read}
-use Rattle.cbor_decode_as.proofs.scalar.read_bool.Goals as goal
+use Rattle.cbor_decode_as.proofs.scalar.bool_at_hand.Goals as goal
 
 pub returns-in-Some-clause-read : goal.returns-in-Some-clause-read
 returns-in-Some-clause-read g c =

@@ -6,7 +6,7 @@ use Rattle.cbor_decode.specs.declared.head.Head.TheVariants.{Unsigned, Negative}
 use Rattle.cbor_decode_as.specs.Takes.{formats_of}
 use Rattle.cbor_decode_as.proofs.heads.Opened.{head_opens, no_tag}
 use Rattle.cbor_decode_as.proofs.numbers.Numbers.{number_read}
-use Rattle.cbor_decode_as.proofs.integer.read_signed.Goals as goal
+use Rattle.cbor_decode_as.proofs.integer.signed_at_hand.Goals as goal
 
 pub returns-in-Some-clause-read : goal.returns-in-Some-clause-read
 returns-in-Some-clause-read g c =
