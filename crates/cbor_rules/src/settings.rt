@@ -2,9 +2,10 @@
 
 ghost use Rattle.std.specs.Prelude.{◌≡◌};
 
-/// An order in which the keys of each map may have to ascend, by their encodings. Keys that ascend
-/// are encoded apart; one value has several encodings unless heads are the shortest, lengths
-/// definite, floats at their shortest and undefined, which is read as null, refused too.
+/// What the keys of each map have to be: in an order in which they ascend by their encodings, each
+/// value once, or any. Keys that ascend differ in their bytes; one value has several encodings
+/// unless heads are the shortest, lengths definite, floats at their shortest and undefined, which is
+/// read as null, refused too.
 #[derive(Clone, Copy, Debug, PartialEq, Eq)]
 pub enum KeyOrder {
     /// In any order, and more than once.
@@ -94,14 +95,7 @@ impl Rules {
     /// maps of labels (RFC 9052, section 9). In all else it is what `from_slice` reads.
     pub const UNIQUE_KEYS: Rules = Rules {
         keys: KeyOrder::Unique,
-        plain_keys: false,
-        shortest_heads: false,
-        definite_lengths: false,
-        reduced_numbers: false,
-        shortest_floats: false,
-        one_nan: false,
-        no_undefined: false,
-        no_tags: false,
+        ..Rules::ANY
     };
 
     /// The canonical form of this library: shortest heads, definite lengths, keys ascending by

@@ -29,7 +29,7 @@ fn open_lines(rt: &HostRuntime) -> io::Result<()> {
     for line in rt.lines(rt.alloc()) {
         match hex::decode(rt.alloc(), line?.as_str()) {
             Ok(input) => print_opened(rt, &input)?,
-            Err(_) => println!(rt; "refused: not hexadecimal")?,
+            Err(error) => println!(rt; "refused: {error}")?,
         }
     }
     Ok(())
