@@ -1,0 +1,3 @@
+pub mod Block
+pub mod Refusals
+pub mod Steps

@@ -1,0 +1,73 @@
+-- How a call that took nothing was refused.
+use Rattle.std.proofs.Common.{◌≡◌, ℕ, ◌+◌, ◌-◌, ◌^◌, ◌<◌, ◌≤◌, List, [], length, Option}
+use Rattle.std.proofs.Common.{drop, take}
+use Rattle.std.proofs.Common.{refl, sym, ap, subst, ◌∙◌, add-zero, arith}
+use Rattle.std.proofs.KnownBytes.{Consumes-nil, Consumes-kept, Keeps-refl}
+use Rattle.cbor_io.specs.ReadError.{why, place, HasNoPlace}
+use Rattle.std.specs.declared.io.Error.{Error}
+use Rattle.cbor_io.specs.declared.read_error.ReadError.{ReadError}
+use Rattle.cbor_read.specs.Source.{Input, TookKept, TookSome, Stays, IsOfSource}
+use Rattle.cbor_read.specs.Source.{RefusedByte, reader_refusals}
+use Rattle.cbor_io.specs.declared.read_error.ReadErrorCode.TheVariants.{LengthOutOfRange}
+use Rattle.cbor_io.specs.declared.read_error.ReadErrorCode.TheVariants.{Io}
+use Rattle.cbor_buffered.specs.Block.{ahead_input}
+use Rattle.cbor_buffered.proofs.Block.{some_to_come, count_ahead}
+
+pub stays_kept : (s t : Input) → Stays s t → TookKept s t []
+stays_kept s t w = record {
+  bytes = Consumes-kept s.to_come s.to_come t.to_come [] (Consumes-nil s.to_come) w.bytes;
+  count = w.count ∙ sym (add-zero s.offset);
+  room = w.room;
+  kept = w.kept;
+}
+
+pub stays_some : (s t : Input) → Stays s t → TookSome s t
+stays_some s t w =
+    let none = stays_kept s t w in
+    record { some = []; bytes = none.bytes; count = none.count; room = none.room }
+
+pub stays_same : (s : Input) → Stays s s
+stays_same s = record { bytes = Keeps-refl s.to_come; count = refl; room = refl; kept = refl }
+
+-- the reader reported a fault
+pub fault_byte : (s t : Input) (fault : Error) (e : ReadError) → why e ≡ Io fault → place e ≡ 0
+    → Stays s t → RefusedByte reader_refusals s t e
+fault_byte s t fault e q at w = record {
+  refused = record {
+    code = ap reader_refusals q;
+    kind = subst IsOfSource (sym q) tt;
+    moved = stays_some s t w;
+    nowhere = λ h. at;
+    ended = λ h. absurd (cc);
+    limit = λ h. absurd (cc);
+  };
+  stays = w;
+  room = λ h. absurd (cc);
+  ended = λ h. absurd (cc);
+  memory = λ h. absurd (cc);
+}
+
+-- another byte is there, which the offset can't count
+pub past_offsets : (s : Input) (rem : Option (List ℕ)) (b buffer : List ℕ) (t f start : ℕ)
+    (e : ReadError) → why e ≡ LengthOutOfRange → place e ≡ 2 ^ 64 - 1 → start + t ≡ 2 ^ 64 - 1
+    → t < f → f ≤ length b → Stays s (ahead_input (drop t (take f b)) rem buffer (start + t))
+    → RefusedByte reader_refusals s (ahead_input (drop t (take f b)) rem buffer (start + t)) e
+past_offsets s rem b buffer t f start e q at last more within w = record {
+  refused = record {
+    code = ap reader_refusals q;
+    kind = subst IsOfSource (sym q) tt;
+    moved = stays_some s (ahead_input (drop t (take f b)) rem buffer (start + t)) w;
+    nowhere = λ h. absurd (subst HasNoPlace q h);
+    ended = λ h. absurd (cc);
+    limit = λ h. (
+      at,
+      last,
+      some_to_come rem (drop t (take f b))
+          (omega (arith, count_ahead b t f within)),
+    );
+  };
+  stays = w;
+  room = λ h. absurd (cc);
+  ended = λ h. absurd (cc);
+  memory = λ h. absurd (cc);
+}

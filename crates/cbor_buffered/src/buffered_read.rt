@@ -1,0 +1,388 @@
+//! A reader of the standard library as a source, read ahead in blocks.
+
+ghost use Rattle.std.specs.Prelude.{◌≡◌, ◌+◌, ◌-◌, ◌^◌, ◌<◌, ◌≤◌, [], length, drop, take};
+ghost use Rattle.std.specs.Prelude.{IfSome, OnOk, OnErr, IfOk, IfErr, vec_len};
+ghost use Rattle.std.specs.Io.KnownBytes.{prepend_known};
+ghost use Rattle.std.specs.Str.Lossy.{utf8_valid_len};
+
+use cbor_io::utf8::from_utf8;
+use cbor_read::{EitherLifetime, Offset, Read, ReadError, ReadErrorCode, Source};
+use std::alloc::Global;
+use std::{fmt, io, mem};
+
+// What the calls of a source answer.
+type Result<T> = std::result::Result<T, ReadError>;
+
+// How many bytes the block holds.
+const BLOCK: usize = 8192;
+
+/// The bytes that a reader gives, read ahead in blocks. What is read is lent until the next call.
+///
+/// Where a byte is wanted and none is left, it asks its reader for 8 KiB, by one call, and goes on
+/// with what that call gave: [`IoRead`](cbor_read::IoRead) asks for each head and string. Use it
+/// for whole files, and for sockets.
+///
+/// Up to 8 KiB that nobody asked for are gone from the reader. `into_inner` hands them back; a
+/// `Deserializer` over this source loses them with it. Take [`IoRead`](cbor_read::IoRead) where
+/// others go on with the reader, and where a peer waits for the answer to an item while the
+/// reader's `read` waits for all that it was asked for (that of a file or of a socket returns what
+/// is there).
+///
+/// Its calls return
+///
+/// - `Io` where the reader reports a fault; an interrupted read is one, and isn't tried again. What
+///   was read ahead comes first, and the next call asks the reader anew;
+/// - `EofWhileParsingValue` where too few bytes are to come;
+/// - `LengthOutOfRange` at the offset 2^64 - 1, where another byte is there;
+/// - `OutOfMemory` where the buffer or the vector to fill can't grow, in `read`, `read_to_buffer`,
+///   `read_to_vec` and `skip_text` alone.
+///
+/// ```rust
+/// let mut source = BufferedRead::new(alloc, b"\x62hi\x00".as_slice())?;
+/// assert_eq!(rt; source.next()?, Some(0x62)); // a text string of two bytes
+/// assert!(rt; matches!(source.read(2)?, EitherLifetime::Short(b"hi")));
+/// let (reader, ahead) = source.into_inner();
+/// assert_eq!(rt; ahead.as_slice(), b"\x00".as_slice());
+/// assert_eq!(rt; reader, b"".as_slice());
+/// ```
+#[derive(Drop)]
+pub struct BufferedRead<R> {
+    reader: R,
+    // `block[taken..filled]` was read and is to come. The offset counts no more than those up to
+    // `end`, which are all but at the last offset there is.
+    block: Vec<u8>,
+    taken: usize,
+    end: usize,
+    filled: usize,
+    // the offset of the block's first byte
+    start: u64,
+    buffer: Vec<u8>,
+    ghost ordered: { taken ≤ end },
+    ghost counted: { end ≤ filled },
+    ghost within: { filled ≤ vec_len block },
+    ghost room: { 0 < vec_len block },
+    ghost offsets: { start + end < 2 ^ 64 },
+    ghost limit: { end < filled → start + end ≡ 2 ^ 64 - 1 },
+}
+
+impl<R: io::Read> BufferedRead<R> {
+    ghost use Rattle.std.specs.Prelude.{None, Ok, ◌≢◌};
+    ghost use Rattle.cbor_io.specs.ReadError.{IsMemory, why};
+    ghost use Rattle.cbor_io.specs.declared.read_error.ReadErrorCode.TheVariants.{OutOfMemory};
+    ghost use Rattle.cbor_read.specs.Source.{start_of_reader, reader_input, Buffered, Stays};
+    ghost use Rattle.cbor_read.specs.Source.{RefusedByte, reader_refusals};
+    ghost use Rattle.cbor_buffered.specs.Block.{input_of_buffered, in_block, RefusedHere};
+
+    /// The bytes of this reader, none of them taken.
+    ///
+    /// `OutOfMemory` where there is no memory for the block; the reader is dropped then, and no
+    /// byte of it was taken.
+    ///
+    /// ```rust
+    /// let mut source = BufferedRead::new(alloc, b"\x18\x2a".as_slice())?;
+    /// assert_eq!(rt; source.next()?, Some(0x18));
+    /// assert_eq!(rt; source.offset(), 1);
+    /// ```
+    pub fn new(alloc: Global, reader: R) -> Result<BufferedRead<R>>
+    where
+        R: Drop,
+        ensures ok { IfOk result (λ s. input_of_buffered R.remaining s
+            ≡ start_of_reader (R.remaining reader)) }
+        ensures err { IfErr result IsMemory }
+    {
+        BufferedRead::at_offset(alloc, reader, 0)
+    }
+
+    /// The bytes of this reader, the first of which stands at this offset of an input whose bytes
+    /// before were taken elsewhere: offsets, those of errors too, count from that input's start.
+    ///
+    /// `OutOfMemory` as [`new`](BufferedRead::new).
+    ///
+    /// ```rust
+    /// let mut source = BufferedRead::at_offset(alloc, b"\x2a".as_slice(), 1)?;
+    /// assert_eq!(rt; source.next()?, Some(0x2a));
+    /// assert_eq!(rt; source.offset(), 2);
+    /// ```
+    pub fn at_offset(alloc: Global, reader: R, offset: u64) -> Result<BufferedRead<R>>
+    where
+        R: Drop,
+        ensures ok { IfOk result (λ s. input_of_buffered R.remaining s
+            ≡ reader_input None (R.remaining reader) [] offset) }
+        ensures err { IfErr result IsMemory }
+    {
+        Ok(BufferedRead {
+            reader,
+            block: vec![in alloc; 0; BLOCK]?,
+            taken: 0,
+            end: 0,
+            filled: 0,
+            start: offset,
+            buffer: Vec::new(alloc),
+        })
+    }
+
+    /// The reader, and the bytes that were read ahead of it and not taken: these come first, and
+    /// then the reader's. What was joined in the buffer is dropped.
+    ///
+    /// ```rust
+    /// let mut source = BufferedRead::new(alloc, b"\x00\x01\x02".as_slice())?;
+    /// assert_eq!(rt; source.next()?, Some(0));
+    /// let (_reader, ahead) = source.into_inner();
+    /// assert_eq!(rt; ahead.as_slice(), b"\x01\x02".as_slice());
+    /// ```
+    pub fn into_inner(self) -> (R, Vec<u8>)
+        ensures { prepend_known result.1.items (R.remaining result.0)
+            ≡ (input_of_buffered R.remaining self).to_come }
+    {
+        let BufferedRead {
+            reader,
+            mut block,
+            taken,
+            filled,
+            ..
+        } = self;
+        block.truncate(filled);
+        block.drain(..taken);
+        (reader, block)
+    }
+
+    // Reads a block, where no byte of the last is left. The offset may be too high to count all that
+    // came.
+    fn read_block(&mut self) -> Result<()>
+        requires { self.old.filled ≤ self.old.taken }
+        ensures stays { OnOk result (Stays (input_of_buffered R.remaining self.old)
+            (input_of_buffered R.remaining self.new)) }
+        ensures end { OnOk result (self.new.taken ≡ self.new.filled
+            → IfSome (input_of_buffered R.remaining self.old).to_come (λ bs. bs ≡ [])) }
+        ensures err { IfErr result (RefusedByte reader_refusals
+            (input_of_buffered R.remaining self.old) (input_of_buffered R.remaining self.new)) }
+    {
+        let count = self.reader.read(&mut self.block)?;
+        self.start += self.end as u64;
+        self.taken = 0;
+        self.end = count.min((u64::MAX - self.start) as usize);
+        self.filled = count;
+        Ok(())
+    }
+
+    // Reads a block, where all of the last is taken that the offset can count.
+    #[inline(never)]
+    fn fill(&mut self) -> Result<()>
+        requires { self.old.taken ≡ self.old.end }
+        ensures stays { OnOk result (Stays (input_of_buffered R.remaining self.old)
+            (input_of_buffered R.remaining self.new)) }
+        ensures end { OnOk result (self.new.taken ≡ self.new.end
+            → IfSome (input_of_buffered R.remaining self.old).to_come (λ bs. bs ≡ [])) }
+        ensures err { IfErr result (RefusedByte reader_refusals
+            (input_of_buffered R.remaining self.old) (input_of_buffered R.remaining self.new)) }
+    {
+        if self.end < self.filled {
+            return Err(ReadError::at(ReadErrorCode::LengthOutOfRange, u64::MAX));
+        }
+        self.read_block()?;
+        if self.taken == self.end && self.end < self.filled {
+            return Err(ReadError::at(ReadErrorCode::LengthOutOfRange, u64::MAX));
+        }
+        Ok(())
+    }
+
+    // Sees to it that a byte is in the block, if any is to come.
+    #[inline(always)]
+    fn prepare(&mut self) -> Result<()>
+        ensures stays { OnOk result (Stays (input_of_buffered R.remaining self.old)
+            (input_of_buffered R.remaining self.new)) }
+        ensures end { OnOk result (self.new.taken ≡ self.new.end
+            → IfSome (input_of_buffered R.remaining self.old).to_come (λ bs. bs ≡ [])) }
+        ensures held { self.old.taken < self.old.end
+            → (result ≡ Ok tt) × (in_block self.new ≡ in_block self.old) }
+        ensures err { IfErr result (RefusedByte reader_refusals
+            (input_of_buffered R.remaining self.old) (input_of_buffered R.remaining self.new)) }
+    {
+        if self.taken == self.end {
+            self.fill()?;
+        }
+        Ok(())
+    }
+
+    // How many of the next bytes, at most so many, are in the block, which is read anew where it
+    // has none left. An end is refused.
+    fn wanted(&mut self, most: usize) -> Result<usize>
+        requires { 0 < most }
+        ensures stays { OnOk result (Stays (input_of_buffered R.remaining self.old)
+            (input_of_buffered R.remaining self.new)) }
+        ensures count { IfOk result
+            (λ n. (0 < n) × (n ≤ most) × (self.new.taken + n ≤ self.new.end)) }
+        ensures err { IfErr result (RefusedHere (input_of_buffered R.remaining self.old)
+            (input_of_buffered R.remaining self.new) most) }
+        ensures memory { IfErr result (λ e. why e ≢ OutOfMemory) }
+    {
+        self.prepare()?;
+        if self.taken == self.end {
+            return Err(ReadError::eof(self.start + self.taken as u64));
+        }
+        Ok(most.min(self.end - self.taken))
+    }
+
+    // Takes some of the next bytes, at most so many, to the buffer's end, and returns how many.
+    fn join_piece(&mut self, most: usize) -> Result<usize>
+        requires { 0 < most }
+        ensures within { IfOk result (λ n. (0 < n) × (n ≤ most)) }
+        ensures ok { IfOk result (Buffered (input_of_buffered R.remaining self.old)
+            (input_of_buffered R.remaining self.new)) }
+        ensures err { IfErr result (RefusedHere (input_of_buffered R.remaining self.old)
+            (input_of_buffered R.remaining self.new) most) }
+    {
+        let count = self.wanted(most)?;
+        let end = self.taken + count;
+        self.buffer.extend_from_slice(&self.block[self.taken..end])?;
+        self.taken = end;
+        Ok(count)
+    }
+}
+
+impl<R: io::Read> Source for BufferedRead<R> {
+    ghost use Rattle.std.specs.Prelude.{false};
+    ghost use Rattle.cbor_read.specs.Source.{reader_refusals, first_of};
+    ghost use Rattle.cbor_buffered.specs.Block.{input_of_buffered, in_block};
+
+    ghost source = { input_of_buffered R.remaining };
+
+    ghost peeked = { λ s. first_of (in_block s) };
+
+    ghost at_hand = { λ s. in_block s };
+
+    ghost refusals = { reader_refusals };
+
+    ghost lends = { record { whole = false; joined = false } };
+
+    fn next(&mut self) -> Result<Option<u8>> {
+        let byte = self.peek()?;
+        if byte.is_some() {
+            self.discard();
+        }
+        Ok(byte)
+    }
+
+    fn peek(&mut self) -> Result<Option<u8>> {
+        self.prepare()?;
+        Ok(self.ahead().first().copied())
+    }
+
+    #[inline(always)]
+    fn ahead(&self) -> &[u8] {
+        &self.block[self.taken..self.end]
+    }
+
+    #[inline(always)]
+    fn advance(&mut self, n: usize) {
+        self.taken += n;
+    }
+
+    fn clear_buffer(&mut self) {
+        self.buffer.clear();
+    }
+
+    fn read_to_buffer(&mut self, n: usize) -> Result<()> {
+        let mut left = n;
+        'pieces: while left > 0 {
+            left -= self.join_piece(left)?;
+        }
+        Ok(())
+    }
+
+    fn buffer(&self) -> &[u8] {
+        &self.buffer
+    }
+
+    // The vector stands in the buffer's place, so that the bytes go straight after it.
+    fn read_to_vec(&mut self, n: usize, out: &mut Vec<u8>) -> Result<()> {
+        mem::swap(&mut self.buffer, out);
+        let answer = self.read_to_buffer(n);
+        mem::swap(&mut self.buffer, out);
+        answer
+    }
+
+    fn read_into(&mut self, buf: &mut [u8]) -> Result<()> {
+        let mut filled = 0;
+        'pieces: while filled < buf.len() {
+            let count = self.wanted(buf.len() - filled)?;
+            buf[filled..filled + count].copy_from_slice(&self.ahead()[..count]);
+            self.advance(count);
+            filled += count;
+        }
+        Ok(())
+    }
+
+    fn skip(&mut self, n: usize) -> Result<()> {
+        let mut left = n;
+        'pieces: while left > 0 {
+            let count = self.wanted(left)?;
+            self.advance(count);
+            left -= count;
+        }
+        Ok(())
+    }
+
+    fn skip_text(&mut self, n: usize) -> Result<usize> {
+        if n <= self.end - self.taken {
+            let valid = valid_in(&self.ahead()[..n]);
+            self.advance(n);
+            return Ok(valid);
+        }
+        self.buffer.clear();
+        self.read_to_buffer(n)?;
+        Ok(valid_in(&self.buffer))
+    }
+
+    fn discard(&mut self) {
+        self.taken += 1;
+    }
+
+    fn offset(&self) -> u64 {
+        self.start + self.taken as u64
+    }
+}
+
+impl<'de, R: io::Read> Read<'de> for BufferedRead<R> {
+    fn read<'a>(&'a mut self, n: usize) -> Result<EitherLifetime<'a, 'de>> {
+        if n <= self.end - self.taken {
+            let start = self.taken;
+            self.taken += n;
+            let whole = &*self;
+            return Ok(EitherLifetime::Short(&whole.block[start..start + n]));
+        }
+        self.buffer.clear();
+        self.read_to_buffer(n)?;
+        Ok(EitherLifetime::Short(&self.buffer))
+    }
+
+    fn take_buffer<'a>(&'a mut self) -> EitherLifetime<'a, 'de> {
+        EitherLifetime::Short(&self.buffer)
+    }
+}
+
+impl<R: io::Read> Offset for BufferedRead<R> {
+    fn byte_offset(&self) -> usize {
+        (self.start + self.taken as u64) as usize
+    }
+}
+
+// How many of these bytes, from the front, are UTF-8.
+#[tactic(auto, using(crate::proofs::Block::all_valid))]
+fn valid_in(bytes: &[u8]) -> usize
+    ensures { result ≡ utf8_valid_len bytes.now }
+{
+    match from_utf8(bytes) {
+        Ok(text) => text.len(),
+        Err(e) => e.valid_up_to(),
+    }
+}
+
+// Neither the input nor the reader is printed: what they hold may be no reader's to see.
+impl<R> fmt::Debug for BufferedRead<R> {
+    fn fmt<W: fmt::Write>(&self, f: &mut fmt::Formatter<W>) -> fmt::Result {
+        f.debug_struct("BufferedRead")
+            .field("offset", &(self.start + self.taken as u64))
+            .finish_non_exhaustive()
+    }
+}
