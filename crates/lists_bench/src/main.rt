@@ -5,7 +5,9 @@
 mod pieces;
 
 use pieces::Sevens;
-use serde_cbor::de::{Deserialize, DeserializeOwned, IoRead, SliceRead};
+use serde_cbor::de::{
+    BufferedRead, Deserialize, DeserializeOwned, Deserializer, IoRead, SliceRead,
+};
 use serde_cbor::ser::{IoWrite, Serialize};
 use serde_cbor::{Result, from_reader, from_slice, to_vec, to_writer};
 use std::alloc::Global;
@@ -36,7 +38,7 @@ fn answer_input(rt: &HostRuntime) -> Result<Option<usize>> {
     let alloc = rt.alloc();
     match input.as_slice() {
         [task @ 0..=1, times, kind, item @ ..] => of_slice(alloc, *task == 1, *times, *kind, item),
-        [task @ 2..=4, times, kind, item @ ..] => of_device(alloc, *task, *times, *kind, item),
+        [task @ 2..=5, times, kind, item @ ..] => of_device(alloc, *task, *times, *kind, item),
         _ => Ok(None),
     }
 }
@@ -80,8 +82,8 @@ fn turns<'a, T: Deserialize<'a, SliceRead<'a>> + Serialize>(
     Ok(Some(written))
 }
 
-// From a buffered reader (2), from one that gives seven bytes a call (3), or from a slice and to a
-// buffered writer (4).
+// From a buffered reader (2), from one that gives seven bytes a call (3), from a slice and to a
+// buffered writer (4), or from a reader that is read ahead (5).
 fn of_device(alloc: Global, task: u8, times: u8, kind: u8, item: &[u8]) -> Result<Option<usize>> {
     match kind {
         b'b' => device_turns::<bool>(alloc, task, times, item),
@@ -100,7 +102,8 @@ where
         + DeserializeOwned
         + Deserialize<'a, SliceRead<'a>>
         + Deserialize<'a, IoRead<BufReader<&'a [u8]>>>
-        + Deserialize<'a, IoRead<Sevens<'a>>>,
+        + Deserialize<'a, IoRead<Sevens<'a>>>
+        + Deserialize<'a, BufferedRead<&'a [u8]>>,
 {
     let mut written = 0;
     'turns: for _ in 0..times {
@@ -111,7 +114,8 @@ where
             3 => {
                 let _: Vec<T> = from_reader(alloc, Sevens::new(item))?;
             }
-            _ => written = through_writer::<T>(alloc, item)?,
+            4 => written = through_writer::<T>(alloc, item)?,
+            _ => read_ahead::<T>(alloc, item)?,
         }
     }
     Ok(Some(written))
@@ -128,4 +132,13 @@ fn through_writer<'a, T: Deserialize<'a, SliceRead<'a>> + Serialize>(
     writer.flush()?;
     drop(writer);
     Ok(bytes.len())
+}
+
+fn read_ahead<'a, T: Deserialize<'a, BufferedRead<&'a [u8]>>>(
+    alloc: Global,
+    item: &'a [u8],
+) -> Result<()> {
+    let mut de = Deserializer::new(alloc, BufferedRead::new(alloc, item)?);
+    let _list: Vec<T> = Vec::deserialize(&mut de)?;
+    de.end()
 }

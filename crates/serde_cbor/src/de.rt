@@ -2,6 +2,7 @@
 //! from a source, one after the other. A struct or an enum is read by its description
 //! ([`read_described`]), or part by part ([`Deserialize`]).
 
+pub use cbor_buffered::BufferedRead;
 pub use cbor_de::{
     Deserialize, DeserializeOwned, Deserializer, EitherLifetime, EitherStr, Field, FieldType,
     Formats, IgnoredAny, IoRead, MapAccess, MutSliceRead, Offset, Read, ReadError, ReadErrorCode,
