@@ -1,12 +1,9 @@
 -- Of any value, that with its numbers as in a form is ordered, and stays as it is.
 use Rattle.std.proofs.Common.{◌≡◌, ◌∙◌, sym, ap, ap₂, subst, refl, arith, lit<}
 use Rattle.std.proofs.lemmas.Bool.{cond_both, ltb-true, leb-true, true≢false}
-use Rattle.std.proofs.lemmas.Float.{T_from_true}
 use Rattle.std.specs.Prelude.{ℕ, zero, suc, ◌*◌, ◌^◌, ℤ, pos, negsuc, Bool, true, false, ltb, leb}
 use Rattle.std.specs.Prelude.{T, Option, Some, None, is_some}
-use lib.Ieee.{Float as Number, nan, inf, fin, binary32, binary64, fits, to_bits}
-use lib.Ieee.Bits.{of_bits-fits, of_bits-to_bits}
-use lib.Ieee.Fits.{fits_widens}
+use lib.Ieee.{Float as Number, nan, inf, fin, binary64, fits}
 use Rattle.cbor_model.specs.Raw.{FloatWidth, half, single, double}
 use Rattle.cbor_model.specs.Plain.{Val, null, bool, integer, float, bytes, text, array, map, tag}
 use Rattle.cbor_model.specs.Plain.{Vals, no_vals, val, Pairs, no_pairs, pair}
@@ -16,41 +13,20 @@ use Rattle.cbor_model.specs.FiniteMap.{put_all}
 use Rattle.cbor_model.specs.Canonical.{IsStorable, IsStorableInteger, AreStorable, ArePairsStorable}
 use Rattle.cbor_model.specs.Canonical.{IsOrdered, AreOrdered, ArePairsOrdered}
 use Rattle.cbor_model.proofs.facts.Maps.{IsOrdered-put, KeysAscend-put_all, put_all-ascending}
+use Rattle.cbor_value.proofs.facts.Floats.{number_fits, shortest_cases}
 use Rattle.cbor_value.specs.declared.Float.{Float}
 use Rattle.cbor_value.specs.declared.Float.TheVariants.{Half, Single, Double}
 use Rattle.cbor_value.specs.Floats.{number, number_of}
+use Rattle.cbor_value.specs.Shortest.{shortest}
 use Rattle.cbor_value.specs.View.{float_view}
-use Rattle.cbor_forms.specs.Shortest.{half_of, half_or_single, shortest}
 use Rattle.cbor_forms.specs.Shortened.{rewritten, all_rewritten, pairs_rewritten, in_form}
 use Rattle.cbor_forms.specs.Shortened.{shortened}
 use Rattle.cbor_forms.specs.Reduced.{signed, integer_of, integer_or, IsReducedInteger}
 use Rattle.cbor_forms.specs.declared.values.Form.{Form}
 use Rattle.cbor_forms.specs.declared.values.Form.TheVariants.{Core, Dcbor}
-use Rattle.cbor_forms.proofs.Halves.{half_is, half_held}
 use Rattle.cbor_forms.proofs.Keys.{by_order-cases}
 
--- ---- the shortest float is a float, of the number
-
-half_cases : (P : Val → Type 0) (b : ℕ) (h : Option ℕ)
-    → ((x : ℕ) → h ≡ Some x → P (float half x)) → P (float single b) → P (half_or_single b h)
-half_cases P b (Some x) found none = found x refl
-half_cases P b None found none = none
-
-pub shortest_cases : (P : Val → Type 0) (x : Number) → T (fits binary64 x)
-    → ((w : FloatWidth) (bits : ℕ) → number w bits ≡ x → P (float w bits)) → P (shortest x)
-unfolding shortest
-shortest_cases P x held each =
-    cond_both (fits binary32 x) _ _ P
-    (λ fit. let again = of_bits-to_bits binary32 x (T_from_true (fits binary32 x) fit) in
-    half_cases P (to_bits binary32 x) (half_of (to_bits binary32 x))
-    (λ h is. each half h (half_is (to_bits binary32 x) h is ∙ again))
-    (each single (to_bits binary32 x) again))
-    (λ wide. each double (to_bits binary64 x) (of_bits-to_bits binary64 x held))
-
-pub number_fits : (w : FloatWidth) (bits : ℕ) → T (fits binary64 (number w bits))
-number_fits half bits = fits_widens _ (half_held bits)
-number_fits single bits = fits_widens _ (of_bits-fits binary32 bits)
-number_fits double bits = of_bits-fits binary64 bits
+-- ---- what a number is written as
 
 -- an integer in dCBOR's range, or the shortest float, where it is none
 reduced_cases : (P : Val → Type 0) (x : Number) (z : Option ℤ)

@@ -1,6 +1,3 @@
-mod Odds
-mod Halves
-mod Narrowest
 mod Whole
 mod Keys
 mod Shortening

@@ -7,14 +7,15 @@ use lib.Ieee.{Float as Number, nan, inf, fin, binary64, fits}
 use lib.Ieee.Back.{whole_unique}
 use lib.Ieee.Exact.{HasValue}
 use Rattle.cbor_model.specs.Plain.{Val, integer}
+use Rattle.cbor_value.proofs.facts.Floats.{shortest_cases}
 use Rattle.cbor_value.specs.declared.Float.{Float}
 use Rattle.cbor_value.specs.declared.Float.TheVariants.{Half, Single, Double}
 use Rattle.cbor_value.specs.Floats.{number_of}
+use Rattle.cbor_value.specs.Shortest.{shortest}
 use Rattle.cbor_value.specs.View.{float_view}
-use Rattle.cbor_forms.specs.Shortest.{shortest}
 use Rattle.cbor_forms.specs.Reduced.{signed, integer_of, integer_or, reduced_number, with_one_zero}
 use Rattle.cbor_forms.specs.Shortened.{rewritten, reduced}
-use Rattle.cbor_forms.proofs.Forms.{some_same, found, shortest_cases, shortest_apart, held}
+use Rattle.cbor_forms.proofs.Forms.{some_same, found, shortest_apart, held}
 use Rattle.cbor_forms.proofs.Whole.{integer_from}
 
 -- ---- what a float's integer says of it

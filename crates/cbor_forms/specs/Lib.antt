@@ -1,4 +1,3 @@
-pub mod Shortest
 pub mod Reduced
 pub mod Whole
 pub mod Shortened

@@ -9,7 +9,7 @@ use Rattle.std.specs.Float.Ieee.{odd, of_bits, of_fields}
 use Rattle.cbor_model.specs.Plain.{Val, integer}
 use Rattle.cbor_model.specs.Raw.{half, single, double}
 use Rattle.cbor_value.specs.Floats.{number, half_number}
-use Rattle.cbor_forms.specs.Shortest.{shortest}
+use Rattle.cbor_value.specs.Shortest.{shortest}
 
 -- n with this sign, which is true below 0, from -2^63 to 2^64 - 1
 abbrev pub signed : Bool → ℕ → Option ℤ

@@ -13,7 +13,7 @@ use Rattle.cbor_io.specs.Error.{code_of, offset_of}
 use Rattle.cbor_model.specs.Raw.{half, single}
 use Rattle.cbor_model.specs.Order.{flat}
 use Rattle.cbor_value.specs.Floats.{number, half_number}
-use Rattle.cbor_forms.specs.Shortest.{shortest}
+use Rattle.cbor_value.specs.Shortest.{shortest}
 use Rattle.cbor_forms.specs.Reduced.{reduced_number, IsReducedInteger}
 use Rattle.cbor_forms.specs.declared.values.Form.{Form}
 use Rattle.cbor_forms.specs.declared.values.Form.TheVariants.{Core, Dcbor}

@@ -17,7 +17,7 @@ use std::alloc::Global;
 
 /// The core deterministic encoding of what a value of any type stands for (RFC 8949, section
 /// 4.2.1): that of `to_vec_canonical`, but with each float in the narrowest width that holds its
-/// number, as by [`shortest`](crate::shortest()). So values that differ only in the widths of their
+/// number, as by `Float::shortened`. So values that differ only in the widths of their
 /// floats have the same bytes. A NaN is `f9 7e 00`. What a tag contains isn't looked at: a big
 /// number (tags 2 and 3) that an integer could hold stays a big number.
 ///

@@ -6,7 +6,6 @@ ghost use Rattle.cbor_value.specs.View.{view};
 ghost use Rattle.cbor_forms.specs.Reduced.{integer_of, reduced_number, signed};
 ghost use Rattle.cbor_forms.specs.Whole.{whole_of};
 
-use crate::floats::shortest;
 use cbor_value::{Float, Value};
 use std::num::f64_to_bits_with_nan;
 
@@ -28,8 +27,8 @@ pub fn integer_of(float: Float) -> Option<i128>
 }
 
 /// What dCBOR writes of a float (draft-mcnally-deterministic-cbor, numeric reduction): the integer
-/// that it is, if it is one from -2^63 to 2^64 - 1, and else its [`shortest`](crate::shortest())
-/// float. So a NaN is `f9 7e 00`.
+/// that it is, if it is one from -2^63 to 2^64 - 1, and else the float
+/// [`shortened`](Float::shortened). So a NaN is `f9 7e 00`.
 ///
 /// ```rust
 /// assert_eq!(rt; reduced_number(Float::from(2.0f64)), Value::Integer(2));
@@ -40,7 +39,7 @@ pub fn reduced_number(float: Float) -> Value
 {
     match integer_of(float) {
         Some(i) => Value::Integer(i),
-        None => Value::Float(shortest(float)),
+        None => Value::Float(float.shortened()),
     }
 }
 

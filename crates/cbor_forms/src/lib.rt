@@ -2,9 +2,8 @@
 //!
 //! [`to_vec_deterministic`] writes the core deterministic encoding (RFC 8949, section 4.2.1) of a
 //! value of any type, and [`to_vec_length_first`] the length-first one (section 4.2.3).
-//! [`shortest`] is the float that they write of a number, and [`shortened`] the value that they
-//! write. [`to_vec_dcbor`] writes dCBOR, of a value's numbers as by [`reduced_number`] and
-//! [`reduced`].
+//! [`shortened`] is the value that they write. [`to_vec_dcbor`] writes dCBOR, of a value's numbers
+//! as by [`reduced_number`] and [`reduced`].
 //!
 //! It names the definitions of `cbor_model`, their facts and its laws, the error of `cbor_io`, the
 //! values of `cbor_value`, and the contracts of `to_vec` of `cbor_ser` and `to_value` of
@@ -12,14 +11,12 @@
 #![tactic(auto)]
 
 mod deterministic;
-mod floats;
 mod integers;
 mod laws;
 mod length_first;
 mod values;
 
 pub use deterministic::{to_vec_dcbor, to_vec_deterministic};
-pub use floats::shortest;
 pub use integers::{integer_of, reduced_number};
 pub use laws::{
     length_first_reads_back, reduced_once, same_dcbor_numbers_same_bytes, same_number_in_dcbor,

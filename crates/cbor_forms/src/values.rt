@@ -12,7 +12,6 @@ ghost use Rattle.cbor_forms.specs.Shortened.{SaysReason, in_form, reduced, rewri
 ghost use Rattle.cbor_forms.specs.Shortened.{all_rewritten, pairs_rewritten};
 ghost use Rattle.cbor_forms.specs.declared.values.Form.TheVariants.{Core, Dcbor};
 
-use crate::floats::shortest;
 use crate::integers::reduced_number;
 use cbor_io::error::{Error, Result};
 use cbor_value::{Float, Map, Value};
@@ -27,7 +26,7 @@ pub enum Form {
     Dcbor,
 }
 
-/// The value with each float at its [`shortest`](crate::shortest()), in its keys too.
+/// The value with each float [`shortened`](Float::shortened), in its keys too.
 ///
 /// Two keys of a map that become equal so, as `1.0` of 16 and of 64 bits, are refused with the
 /// message `Two keys of a map are equal with floats at their shortest`. It returns `OutOfMemory`
@@ -107,7 +106,7 @@ fn rewrite_float(form: Form, float: Float) -> Value
     ensures { view result ≡ in_form form (number_of float) }
 {
     match form {
-        Form::Core => Value::Float(shortest(float)),
+        Form::Core => Value::Float(float.shortened()),
         Form::Dcbor => reduced_number(float),
     }
 }

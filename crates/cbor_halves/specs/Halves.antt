@@ -6,7 +6,7 @@ use Rattle.std.specs.Prelude.{if◌then◌else◌, Option, Some, None, refl}
 -- binary16, and the exponent's eight bits x and the fraction's 23 in binary32, whose number is
 -- (2^23 + the fraction) * 2^(x - 150) where x is neither 0 nor 255. Binary16 has exponents 112
 -- lower, and 13 bits less; below its least exponent it has the multiples of 2^-24. That the number
--- is the same, and that none is missed, is proved in `cbor_forms`, of `shortest`
+-- is the same, and that none is missed, is proved in `cbor_value`, of `shortest`
 -- (`number`, `narrowest`).
 abbrev pub half_by : ℕ → ℕ → ℕ → Option ℕ
 half_by sign x fraction =

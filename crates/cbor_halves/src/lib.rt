@@ -1,6 +1,6 @@
 //! The float of 16 bits that is the number of a float of 32 bits (IEEE 754), by which a number is
 //! written in the shortest width that holds it. That the numbers are the same, and that none is
-//! missed, is proved in `cbor_forms`.
+//! missed, is proved in `cbor_value`.
 #![tactic(auto)]
 
 ghost use Rattle.std.specs.Prelude.{◌≡◌};

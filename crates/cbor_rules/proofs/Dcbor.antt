@@ -16,10 +16,10 @@ use Rattle.cbor_model.specs.FiniteMap.{put_all}
 use Rattle.cbor_model.specs.Canonical.{canonical, canonical_all, canonical_pairs}
 use Rattle.cbor_value.specs.Floats.{number}
 use Rattle.cbor_value.specs.Floats.{number_of as number_of_float}
+use Rattle.cbor_value.specs.Shortest.{shortest}
 use Rattle.cbor_value.specs.declared.Float.{Float}
 use Rattle.cbor_value.specs.declared.Float.TheVariants.{Half, Single, Double}
 use Rattle.cbor_forms.specs.Reduced.{integer_of, integer_or, IsReducedInteger}
-use Rattle.cbor_forms.specs.Shortest as forms
 use Rattle.cbor_forms.specs.Shortened.{shortened, reduced, rewritten, all_rewritten, pairs_rewritten}
 use Rattle.cbor_forms.specs.Shortened.{Allows, AllowsAll, AllowsPairs}
 use Rattle.cbor_forms.specs.declared.values.Form.TheVariants.{Dcbor}
@@ -250,24 +250,24 @@ module _ (once : Once) (reduced_once : ReducedOnce) (in_range : InRange) where
 
   -- a float that stays is no integer
   stays : (w : FloatWidth) (bits : ℕ) (o : Option ℤ)
-      → integer_or (forms.shortest (number w bits)) o ≡ float w bits → o ≡ None
+      → integer_or (shortest (number w bits)) o ≡ float w bits → o ≡ None
   stays w bits None is = refl
   stays w bits (Some z) is = absurd cc
 
   shortest_reduced : (w : FloatWidth) (bits : ℕ) → integer_of (number w bits) ≡ None
-      → HasReducedNumbers (forms.shortest (number w bits))
+      → HasReducedNumbers (shortest (number w bits))
   unfolding rewritten
   shortest_reduced w bits none =
       let x = number w bits in
       let s = shortest_is x in
       let same : reduced (float w bits) ≡ float s.width s.bits =
-      ap (integer_or (forms.shortest x)) none ∙ s.is in
+      ap (integer_or (shortest x)) none ∙ s.is in
       subst HasReducedNumbers (sym s.is)
       (stays s.width s.bits (integer_of (number s.width s.bits))
       (ap reduced (sym same) ∙ reduced_once (float w bits) ∙ same))
 
   number_done : (w : FloatWidth) (bits : ℕ) (o : Option ℤ) → integer_of (number w bits) ≡ o
-      → IsDone (integer_or (forms.shortest (number w bits)) o)
+      → IsDone (integer_or (shortest (number w bits)) o)
   number_done w bits (Some z) is = (in_range_of w bits z is, tt)
   number_done w bits None is = (shortest_reduced w bits is, float_shortened once w bits)
 

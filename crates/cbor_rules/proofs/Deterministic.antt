@@ -11,10 +11,10 @@ use Rattle.cbor_model.specs.FiniteMap.{put_all}
 use Rattle.cbor_model.specs.Canonical.{canonical, canonical_all, canonical_pairs}
 use Rattle.cbor_value.specs.Floats.{number, half_number}
 use Rattle.cbor_value.specs.Floats.{number_of as number_of_float}
+use Rattle.cbor_value.specs.Shortest.{shortest}
 use Rattle.cbor_value.specs.View.{float_view}
 use Rattle.cbor_value.specs.declared.Float.{Float}
 use Rattle.cbor_value.specs.declared.Float.TheVariants.{Half}
-use Rattle.cbor_forms.specs.Shortest as forms
 use Rattle.cbor_forms.specs.Shortened.{shortened, rewritten, all_rewritten, pairs_rewritten}
 use Rattle.cbor_forms.specs.declared.values.Form.TheVariants.{Core}
 use Rattle.cbor_rules.specs.Features.{Feature, number as number_of, indefinite_length, simple_item, float_bits, key, Place, head_end, length_end, features, all_features, pair_features}
@@ -186,7 +186,7 @@ mutual
 -- ---- what keeps them
 
 abbrev pub ApartFloats : Type 0
-ApartFloats = (a b : ℕ) → forms.shortest (half_number a) ≡ forms.shortest (half_number b) → half_number a ≡ half_number b
+ApartFloats = (a b : ℕ) → shortest (half_number a) ≡ shortest (half_number b) → half_number a ≡ half_number b
 
 module _ (apart : ApartFloats) where
   pub float_fine : (w : FloatWidth) (bits : ℕ) → IsShortest w bits → IsFine floats_only (float_bits w bits)
@@ -236,13 +236,13 @@ module _ (apart : ApartFloats) where
 -- ---- what is shortened
 
 module _ (once : (v : Val) → shortened (shortened v) ≡ shortened v) where
-  shortest_of : (w : FloatWidth) (bits : ℕ) → forms.shortest (number w bits) ≡ float w bits → IsShortest w bits
+  shortest_of : (w : FloatWidth) (bits : ℕ) → shortest (number w bits) ≡ float w bits → IsShortest w bits
   shortest_of half bits is = λ not_a_number.
-      let same : float half 0x7e00 ≡ float half bits = sym (ap forms.shortest not_a_number ∙ shortest_nan) ∙ is in cc
+      let same : float half 0x7e00 ≡ float half bits = sym (ap shortest not_a_number ∙ shortest_nan) ∙ is in cc
   shortest_of single bits is = is
   shortest_of double bits is = is
 
-  pub float_shortened : (w : FloatWidth) (bits : ℕ) → HasShortestFloats (forms.shortest (number w bits))
+  pub float_shortened : (w : FloatWidth) (bits : ℕ) → HasShortestFloats (shortest (number w bits))
   unfolding rewritten
   float_shortened w bits =
       let s = shortest_is (number w bits) in

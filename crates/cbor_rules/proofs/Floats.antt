@@ -7,7 +7,7 @@ use lib.Ieee.Bits.{of_bits-fits, to_bits-of_bits, is_true}
 use Rattle.cbor_model.specs.Plain.{Val, float}
 use Rattle.cbor_model.specs.Raw.{FloatWidth, half, single, double, float_limit}
 use Rattle.cbor_value.specs.Floats.{half_number}
-use Rattle.cbor_forms.specs.Shortest.{half_of, half_or_single, shortest}
+use Rattle.cbor_value.specs.Shortest.{half_of, half_or_single, shortest}
 use Rattle.cbor_rules.specs.Presets.{IsShortest}
 use Rattle.cbor_rules.specs.Rules.{float_size, is_quiet_nan, is_wide, is_other_nan}
 

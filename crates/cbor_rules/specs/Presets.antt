@@ -12,10 +12,10 @@ use Rattle.cbor_model.specs.Plain.{Val, integer, float, array, map, tag, Vals, n
 use Rattle.cbor_model.specs.Plain.{Pairs, no_pairs, pair}
 use Rattle.cbor_model.specs.Raw.{FloatWidth, half, single}
 use Rattle.cbor_value.specs.Floats.{number, half_number}
+use Rattle.cbor_value.specs.Shortest.{shortest}
 use Rattle.cbor_forms.specs.LengthFirst as forms
 use Rattle.cbor_forms.specs.Reduced.{integer_of, IsReducedInteger}
 use Rattle.cbor_forms.specs.Shortened.{shortened, reduced, IsReducible}
-use Rattle.cbor_forms.specs.Shortest.{shortest}
 use Rattle.cbor_rules.specs.Rules.{Keeps, key_cmp, only}
 use Rattle.cbor_rules.specs.declared.settings.Rules.{Rules}
 use Rattle.cbor_rules.specs.declared.settings.KeyOrder.TheVariants.{Any, Unique, Bytewise, LengthFirst}

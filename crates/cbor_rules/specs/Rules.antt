@@ -20,8 +20,8 @@ use Rattle.cbor_model.specs.Reader.{Fault, read_value, read_value_in, item_at, i
 use Rattle.cbor_model.specs.Reader.{after_first, content_at, number_behind}
 use Rattle.cbor_model.specs.Spelling.{spell}
 use Rattle.cbor_value.specs.Floats as floats
+use Rattle.cbor_value.specs.Shortest.{shortest}
 use Rattle.cbor_forms.specs.Reduced.{integer_of}
-use Rattle.cbor_forms.specs.Shortest.{shortest}
 use Rattle.cbor_forms.specs.LengthFirst.{by_length}
 use Rattle.cbor_rules.specs.Features.{Feature, number, indefinite_length, simple_item, float_bits, key, Place}
 use Rattle.cbor_rules.specs.Features.{features}

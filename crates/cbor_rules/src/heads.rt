@@ -8,7 +8,7 @@ ghost use Rattle.cbor_rules.specs.Rules.{broken, float_size, floor, is_quiet_nan
 ghost use Rattle.cbor_rules.specs.Walks.{float_feature};
 
 use crate::settings::{Rule, Rules};
-use cbor_forms::{integer_of, shortest};
+use cbor_forms::integer_of;
 use cbor_value::Float;
 
 /// The rule that a head with this number breaks, if it does: of this major type, below 7, after a
@@ -60,7 +60,7 @@ pub(crate) fn broken_by_float(rules: Rules, float: Float) -> Option<Rule>
     if !rules.shortest_floats && !rules.one_nan {
         return None;
     }
-    let short = shortest(float);
+    let short = float.shortened();
     if rules.shortest_floats && size(short) < size(float) {
         Some(Rule::ShortestFloats)
     } else if rules.one_nan && is_quiet_nan(short) && !is_quiet_nan(float) {

@@ -1,6 +1,8 @@
 pub mod Comparing
+pub mod Halves
 pub mod Lookups
 pub mod Maps
+pub mod Narrowest
 pub mod Numbers
 pub mod Pointers
 pub mod Sorting

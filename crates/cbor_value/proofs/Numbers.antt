@@ -71,6 +71,25 @@ odd_shift d s (suc q) k l n =
     let e : k + n + t ≡ k + t + n = omega arith in
     ap (λ (z : ℕ). fin s m (minus z (l + n))) e ∙ ap (fin s m) (minus_shift (k + t) l n)
 
+-- q * 2^j / 2^24 is also p * 2^k / 2^149
+pub same_odd : (s : Bool) (q j p i k : ℕ) → q < 2 ^ 11 → p < 2 ^ 24 → j < 31 → p ≡ q * 2 ^ i
+    → i + k ≡ j + 125 → odd 11 s q j 24 ≡ odd 24 s p k 149
+same_odd s q j p i k few more low is sum =
+    let a = q * 2 ^ (j + 125) in
+    let scaled : p * 2 ^ k ≡ a =
+    ap (λ (z : ℕ). z * 2 ^ k) is ∙ mul_assoc q (2 ^ i) (2 ^ k)
+    ∙ ap (λ (z : ℕ). q * z) (sym (pow-add 2 i k) ∙ ap (λ (z : ℕ). 2 ^ z) sum) in
+    let most : 11 + (j + 125) ≤ 277 = omega arith in
+    let small : a < 2 ^ 277 = lt_of_lt_of_le (shl_lt 11 (j + 125) few) (pow_mono most) in
+    let wide : q ≤ 2 ^ 24 = omega arith in
+    let full : p ≤ 2 ^ 24 = omega arith in
+    sym (odd_shift 11 s q j 24 125)
+    ∙ same_value (odd 11 s q (j + 125) 149) (odd 24 s p k 149) s a
+    (odd-fits binary32 11 s q (j + 125) few wide small)
+    (odd-fits binary32 24 s p k more full (subst (λ (z : ℕ). z < 2 ^ 277) (sym scaled) small))
+    (odd_sign 11 s q (j + 125) 149)
+    (subst (λ (z : ℕ). HasValue (odd 24 s p k 149) s z (2 ^ 149)) scaled (odd_sign 24 s p k 149))
+
 -- ---- a product of two fractions that aren't negative
 
 mul_values : (x y : Float) (a c b d : ℕ) → 0 < c → 0 < d → HasValue x false a c

@@ -1,3 +1,4 @@
 -- What the crates above may cite of this crate's proofs, and nothing else.
+pub mod Floats
 pub mod Sizes
 pub mod Views

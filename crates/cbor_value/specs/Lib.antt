@@ -5,5 +5,6 @@ pub mod Lookup
 pub mod Pointer
 pub mod Rows
 pub mod Search
+pub mod Shortest
 pub mod View
 pub use Rattle.cbor_io.specs.Error

@@ -2,11 +2,12 @@
 //!
 //! [`Value`] and [`Map`] with their order, copies and conversions, and what is found in them; and
 //! byte strings as types of their own (`bytes`). It names the definitions of `cbor_model`, its
-//! facts on the order and on maps, and the error of `cbor_io`. The crates above rely on the
-//! contracts of its public calls, on `specs/View.antt` (the tree of the model that a value stands
-//! for), on `specs/Floats.antt` (the number that a float stands for), and on the facts of
-//! `proofs/facts`. `specs/Contents.antt`, `specs/Lookup.antt` and `specs/Pointer.antt` say what is
-//! found in a value, and `specs/Lending.antt` what a map ends as where a value in it is lent.
+//! facts on the order and on maps, the error of `cbor_io`, and the halves of `cbor_halves`. The
+//! crates above rely on the contracts of its public calls, on `specs/View.antt` (the tree of the
+//! model that a value stands for), on `specs/Floats.antt` and `specs/Shortest.antt` (the number that
+//! a float stands for, and the shortest float of a number), and on the facts of `proofs/facts`.
+//! `specs/Contents.antt`, `specs/Lookup.antt` and `specs/Pointer.antt` say what is found in a value,
+//! and `specs/Lending.antt` what a map ends as where a value in it is lent.
 #![tactic(auto)]
 
 mod accessors;
@@ -20,6 +21,7 @@ mod memory;
 mod order;
 mod pairs;
 mod pointer;
+mod shortest;
 
 /// A float as it was read: its width, and its bits by IEEE 754. [`to_f64`](Float::to_f64) is the
 /// number, and `Float::from` makes a float of an `f64` or an `f32`.
@@ -28,8 +30,8 @@ mod pointer;
 /// NaN equals itself. The order is that of the widths, and then that of the bits, as it is among
 /// values.
 ///
-/// No method makes a float narrower. Where another encoder would write the shortest width that
-/// holds a number, `shortest` of `serde_cbor::value` gives it: of 1.0 it is `Float::Half(0x3c00)`.
+/// Nothing makes a float narrower unasked. Where another encoder would write the shortest width
+/// that holds a number, [`shortest`](Float::shortest) gives it: of 1.0 it is `Float::Half(0x3c00)`.
 ///
 /// ```rust
 /// assert_eq!(rt; Float::Half(0x3c00).to_f64(), 1.0);

@@ -27,6 +27,7 @@ pub use Rattle.cbor_read.specs.Source
 pub use Rattle.cbor_read.specs.Sources
 pub use Rattle.cbor_io.specs.Write
 pub use Rattle.cbor_value.specs.Floats
+pub use Rattle.cbor_value.specs.Shortest
 pub use Rattle.cbor_value.specs.View
 pub use Rattle.cbor_value.specs.Search
 pub use Rattle.cbor_value.specs.Contents
@@ -108,7 +109,6 @@ pub use Rattle.cbor_convert.specs.Encoded
 pub use Rattle.cbor_io.specs.Compare
 pub use Rattle.cbor_tags.specs.Numbers
 pub use Rattle.cbor_tags.specs.Times
-pub use Rattle.cbor_forms.specs.Shortest
 pub use Rattle.cbor_forms.specs.Reduced
 pub use Rattle.cbor_forms.specs.Shortened
 pub use Rattle.cbor_forms.specs.Deterministic

@@ -7,6 +7,6 @@ pub use cbor_convert::{
 pub use cbor_forms::{
     integer_of, length_first_reads_back, reduced, reduced_number, reduced_once,
     same_dcbor_numbers_same_bytes, same_number_in_dcbor, same_number_same_float,
-    same_numbers_same_bytes, shortened, shortened_once, shorter_keys_first, shortest,
+    same_numbers_same_bytes, shortened, shortened_once, shorter_keys_first,
 };
 pub use cbor_value::{Float, Map, Value};

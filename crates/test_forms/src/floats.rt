@@ -1,7 +1,6 @@
 //! Floats at their shortest.
 
 use crate::checks::encodes;
-use cbor_forms::shortest;
 use cbor_value::Float;
 use test_checks::Done;
 
@@ -58,7 +57,7 @@ fn writes_each_width_alike(rt: HostRuntime) -> Done {
         ),
     ];
     for (float, want) in rows {
-        assert_eq!(rt; shortest(float), want);
+        assert_eq!(rt; float.shortened(), want);
     }
     Ok(())
 }

@@ -10,8 +10,8 @@ use Rattle.cbor_model.specs.Raw.{half, single, double}
 use Rattle.cbor_value.specs.declared.Float.{Float}
 use Rattle.cbor_value.specs.declared.Float.TheVariants.{Half, Single, Double}
 use Rattle.cbor_value.specs.Floats.{number_of}
-use Rattle.cbor_forms.specs.Shortest.{half_of, half_or_single, shortest, width}
-use Rattle.cbor_forms.proofs.Halves.{half_missing, half_held, same, found}
+use Rattle.cbor_value.specs.Shortest.{half_of, half_or_single, shortest, width}
+use Rattle.cbor_value.proofs.Halves.{half_missing, half_held, same, found}
 
 -- ---- in which width
 

@@ -1,14 +1,14 @@
-use Rattle.std.proofs.Common.{◌≡◌, ◌∙◌, sym, ap, Option, Some, None, rules}
+use Rattle.std.proofs.Common.{◌≡◌, ◌∙◌, sym, ap, Option, rules}
 use Rattle.std.specs.Prelude.{ℕ, T}
 use lib.Ieee.{binary32, fits, of_bits}
 use lib.Ieee.Bits.{of_bits-to_bits}
 use Rattle.cbor_model.specs.Plain.{float}
 use Rattle.cbor_model.specs.Raw.{single}
 use Rattle.cbor_value.specs.declared.Float.TheVariants.{Half}
-use Rattle.cbor_forms.specs.Shortest.{half_of}
-use Rattle.cbor_forms.proofs.Halves.{half_is}
-use Rattle.cbor_forms.proofs.Narrowest.{in_half, in_single, none_between, nan_half, nan_found}
-use Rattle.cbor_forms.proofs.floats.half_or_single.Goals as goal
+use Rattle.cbor_value.specs.Shortest.{half_of}
+use Rattle.cbor_value.proofs.Halves.{half_is}
+use Rattle.cbor_value.proofs.Narrowest.{in_half, in_single, none_between, nan_half, nan_found}
+use Rattle.cbor_value.proofs.shortest.half_or_single.Goals as goal
 
 -- ---- 16 bits hold it
 

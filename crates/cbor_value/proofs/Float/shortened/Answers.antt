@@ -7,14 +7,14 @@ use lib.Ieee.Fits.{nan-fits}
 use Rattle.cbor_model.specs.Plain.{float}
 use Rattle.cbor_model.specs.Raw.{double}
 use Rattle.cbor_value.specs.Floats.{number_of}
-use Rattle.cbor_forms.proofs.Narrowest.{in_double, none_above}
-use Rattle.cbor_forms.proofs.floats.shortest.Goals as goal
+use Rattle.cbor_value.proofs.Narrowest.{in_double, none_above}
+use Rattle.cbor_value.proofs.Float.shortened.Goals as goal
 
 pub returns-in-None-clause-shortest : goal.returns-in-None-clause-shortest
 returns-in-None-clause-shortest c =
     ap (λ (b : ℕ). float double b)
     (c.f64_to_bits_with_nan.ensures ∙ ap (to_bits binary64) c.to_f64.ensures)
-    ∙ in_double (number_of c.args.float) c.in-None.ensures
+    ∙ in_double (number_of c.args.self) c.in-None.ensures
 
 pub returns-in-None-clause-number : goal.returns-in-None-clause-number
 returns-in-None-clause-number c =
@@ -25,7 +25,7 @@ returns-in-None-clause-number c =
 
 pub returns-in-None-clause-narrowest : goal.returns-in-None-clause-narrowest
 returns-in-None-clause-narrowest c other is =
-    none_above (number_of c.args.float) c.in-None.ensures other is
+    none_above (number_of c.args.self) c.in-None.ensures other is
 
 pub returns-in-None-clause-not_a_number : goal.returns-in-None-clause-not_a_number
 returns-in-None-clause-not_a_number c is =

@@ -10,8 +10,8 @@ use lib.Ieee.Bits.{of_bits-fits, to_bits-of_bits}
 use lib.Pow.{pow_mono, split, shr_lt, field}
 use native.Mathlib.Nat.{lt_of_lt_of_le, mul-mod_left, mul_left_comm, pow-succ'}
 use Rattle.cbor_value.specs.Floats.{half_parts, half_number}
-use Rattle.cbor_forms.specs.Shortest.{half_by, half_of}
-use Rattle.cbor_forms.proofs.Odds.{same_odd}
+use Rattle.cbor_value.specs.Shortest.{half_by, half_of}
+use Rattle.cbor_value.proofs.Numbers.{same_odd}
 
 or_zero : Option ℕ → ℕ
 or_zero (Some n) = n
