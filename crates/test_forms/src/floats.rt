@@ -61,3 +61,19 @@ fn writes_each_width_alike(rt: HostRuntime) -> Done {
     }
     Ok(())
 }
+
+// 1.5, 100000.0, 1.1 and the NaN of Appendix A, and 0.1, which needs all 64 bits.
+#[test]
+fn is_the_shortest_of_a_number(rt: HostRuntime) -> Done {
+    let rows = [
+        (1.5, Float::Half(0x3e00)),
+        (100000.0, Float::Single(0x47c3_5000)),
+        (1.1, Float::Double(0x3ff1_9999_9999_999a)),
+        (f64::NAN, Float::Half(0x7e00)),
+        (0.1, Float::Double(0x3fb9_9999_9999_999a)),
+    ];
+    for (number, want) in rows {
+        assert_eq!(rt; Float::shortest(number), want);
+    }
+    Ok(())
+}
