@@ -5,7 +5,7 @@ pub mod Calls
 pub mod Peeked
 pub mod Ended
 pub mod Heads
-pub mod ShortTexts
+pub mod ShortHeads
 pub mod AtEnd
 mod AtHand
 mod WholeHeads

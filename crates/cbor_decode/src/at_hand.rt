@@ -1,12 +1,14 @@
-//! Heads of numbers and bools that are whole at hand: they are known by the bytes themselves,
-//! without a refusal. All others are for [`Decoder::head`].
+//! Heads that are whole at hand, of numbers, of bools, and of what is short: they are known by the
+//! bytes themselves, without a refusal. All others are for [`Decoder::head`].
 
 ghost use Rattle.std.specs.Prelude.{◌≡◌, ◌≤◌, ◌++◌, List, ℕ, length, take, MatchOption, IfSome};
-ghost use Rattle.std.specs.Prelude.{OnSome, Ok};
+ghost use Rattle.std.specs.Prelude.{OnSome, Ok, Some};
 ghost use Rattle.cbor_model.specs.Reader.{number_behind};
 ghost use Rattle.cbor_decode.specs.Decoder.{SameSettings};
 ghost use Rattle.cbor_decode.specs.Heads.{HeadGives, opening_at};
-ghost use Rattle.cbor_decode.specs.declared.head.Head.TheVariants.{Unsigned, Negative};
+ghost use Rattle.cbor_decode.specs.declared.cursor.Remaining.TheVariants.{Counted};
+ghost use Rattle.cbor_decode.specs.declared.head.Head.TheVariants.{Unsigned, Negative, Text, Array};
+ghost use Rattle.cbor_decode.specs.declared.head.Head.TheVariants.{Map};
 ghost use Rattle.cbor_decode.specs.declared.head.Head.TheVariants.{Bool as BoolHead};
 ghost use Rattle.cbor_decode.specs.Steps as step;
 
@@ -116,6 +118,63 @@ impl<R: Source> Decoder<R> {
             Some(0xf5) => {
                 self.source.advance(1);
                 Some(true)
+            }
+            _ => None,
+        }
+    }
+
+    /// Takes the head of a text of up to 23 bytes, which most names are, and returns how many. None
+    /// where another head comes, or no byte is available; then nothing is taken.
+    #[inline(always)]
+    pub fn short_text(&mut self) -> Option<u64>
+        ensures read { MatchOption result (R.source self.new.source ≡ R.source self.old.source)
+            (λ n. HeadGives R.refusals opening_at (R.source self.old.source)
+            (R.source self.new.source) self.new.refusal (Ok (Text (Some n)))) }
+        ensures taken { OnSome result (step.Advances R.source self.old self.new) }
+        ensures settings { SameSettings self.old self.new }
+    {
+        match self.source.ahead().first().copied() {
+            Some(first @ 0x60..=0x77) => {
+                self.source.advance(1);
+                Some((first - 0x60) as u64)
+            }
+            _ => None,
+        }
+    }
+
+    /// Takes the head of an array of up to 23 items and returns how many. None as
+    /// [`short_text`](Decoder::short_text) returns it.
+    #[inline(always)]
+    pub fn short_array(&mut self) -> Option<u64>
+        ensures read { MatchOption result (R.source self.new.source ≡ R.source self.old.source)
+            (λ n. HeadGives R.refusals opening_at (R.source self.old.source)
+            (R.source self.new.source) self.new.refusal (Ok (Array (Counted n)))) }
+        ensures taken { OnSome result (step.Advances R.source self.old self.new) }
+        ensures settings { SameSettings self.old self.new }
+    {
+        match self.source.ahead().first().copied() {
+            Some(first @ 0x80..=0x97) => {
+                self.source.advance(1);
+                Some((first - 0x80) as u64)
+            }
+            _ => None,
+        }
+    }
+
+    /// Takes the head of a map of up to 23 pairs and returns how many. None as
+    /// [`short_text`](Decoder::short_text) returns it.
+    #[inline(always)]
+    pub fn short_map(&mut self) -> Option<u64>
+        ensures read { MatchOption result (R.source self.new.source ≡ R.source self.old.source)
+            (λ n. HeadGives R.refusals opening_at (R.source self.old.source)
+            (R.source self.new.source) self.new.refusal (Ok (Map (Counted n)))) }
+        ensures taken { OnSome result (step.Advances R.source self.old self.new) }
+        ensures settings { SameSettings self.old self.new }
+    {
+        match self.source.ahead().first().copied() {
+            Some(first @ 0xa0..=0xb7) => {
+                self.source.advance(1);
+                Some((first - 0xa0) as u64)
             }
             _ => None,
         }

@@ -10,7 +10,7 @@ ghost use Rattle.cbor_decode.specs.Decoder.{SameSettings};
 ghost use Rattle.cbor_decode.specs.Gives.{ReportsNoKey, ReportsNoMemory};
 ghost use Rattle.cbor_decode.specs.Heads.{HeadGives, NumberGives, opening_at, head_at, head_of};
 ghost use Rattle.cbor_decode.specs.Heads.{simple_head};
-ghost use Rattle.cbor_decode.specs.declared.head.Head.TheVariants.{Float as FloatHead, Text};
+ghost use Rattle.cbor_decode.specs.declared.head.Head.TheVariants.{Float as FloatHead};
 ghost use Rattle.cbor_value.specs.declared.Float.TheVariants.{Single, Double};
 ghost use Rattle.cbor_read.specs.Source.{TookKept, RefusedInto};
 ghost use Rattle.cbor_decode.specs.declared.refusal.Refused.TheVariants.{Kept};
@@ -54,25 +54,6 @@ pub enum Head {
 }
 
 impl<R: Source> Decoder<R> {
-    /// Takes the head of a text of up to 23 bytes, which most names are, and returns how many. None
-    /// where another head comes, or no byte is available; then nothing is taken.
-    #[inline(always)]
-    pub fn short_text(&mut self) -> Option<u64>
-        ensures read { MatchOption result (R.source self.new.source ≡ R.source self.old.source)
-            (λ n. HeadGives R.refusals opening_at (R.source self.old.source)
-            (R.source self.new.source) self.new.refusal (Ok (Text (Some n)))) }
-        ensures taken { OnSome result (step.Advances R.source self.old self.new) }
-        ensures settings { SameSettings self.old self.new }
-    {
-        match self.source.ahead().first().copied() {
-            Some(first @ 0x60..=0x77) => {
-                self.source.advance(1);
-                Some((first - 0x60) as u64)
-            }
-            _ => None,
-        }
-    }
-
     /// Takes a float of 32 bits and returns its bits. None where another head comes, or no byte is
     /// available; then nothing is taken.
     #[inline(always)]

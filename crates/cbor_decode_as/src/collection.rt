@@ -1,6 +1,7 @@
 //! Arrays and maps around what they hold (RFC 7049, section 2.1, major types 4 and 5).
 
-ghost use Rattle.std.specs.Prelude.{◌≡◌, ◌<◌, IfOk, IfErr, OnOk, OnErr, true, false};
+ghost use Rattle.std.specs.Prelude.{◌≡◌, ◌<◌, IfOk, IfErr, IfSome, OnOk, OnErr, OnSome, Ok};
+ghost use Rattle.std.specs.Prelude.{MatchOption, true, false};
 ghost use Rattle.cbor_io.specs.Error.{code_of};
 ghost use Rattle.cbor_decode.specs.Decoder.{SameSettings};
 ghost use Rattle.cbor_decode.specs.Cursor.{Counts};
@@ -23,11 +24,61 @@ use cbor_decode::{Collection, Decoder, Done, Head, Remaining};
 use cbor_io::error::Result;
 use cbor_read::{ReadErrorCode, Source};
 
+/// Takes the head of an array of up to 23 items that is at hand, without tags, and goes one level in.
+/// None where another head comes, no byte is at hand, or no level is left; then nothing is taken.
+#[inline(always)]
+pub fn array_at_hand<R: Source>(decoder: &mut Decoder<R>) -> Option<Remaining>
+    ensures read { MatchOption result (R.source decoder.new.source ≡ R.source decoder.old.source)
+        (λ remaining. TakesHead R.refusals (formats_of decoder.old.formats)
+        decoder.old.levels (R.source decoder.old.source) (R.source decoder.new.source)
+        decoder.new.levels (Ok remaining)) }
+    ensures opened { IfSome result (λ remaining. TakesBeginning kind.Array R.refusals
+        decoder.old.levels (R.source decoder.old.source) (R.source decoder.new.source)
+        decoder.new.levels (Ok remaining)) }
+    ensures taken { OnSome result (step.Advances R.source decoder.old decoder.new) }
+    ensures levels { MatchOption result (decoder.new.levels ≡ decoder.old.levels)
+        (λ remaining. decoder.new.levels < decoder.old.levels) }
+    ensures formats { decoder.new.formats ≡ decoder.old.formats }
+{
+    if decoder.levels == 0 {
+        return None;
+    }
+    match decoder.short_array() {
+        Some(n) => {
+            decoder.levels -= 1;
+            Some(Remaining::Counted(n))
+        }
+        None => None,
+    }
+}
+
 /// Takes the tags and the head of an array, and goes one level in.
 ///
 /// An item of another kind is refused with `invalid type: expected an array`, and an array for
 /// which no level is left with `RecursionLimitExceeded`. No level is entered then.
+#[inline(always)]
 pub fn array_head<R: Source>(decoder: &mut Decoder<R>) -> Result<Remaining>
+    ensures read { TakesHead R.refusals (formats_of decoder.old.formats)
+        decoder.old.levels (R.source decoder.old.source) (R.source decoder.new.source)
+        decoder.new.levels result }
+    ensures opened { TakesBeginning kind.Array R.refusals decoder.old.levels
+        (R.source decoder.old.source) (R.source decoder.new.source)
+        decoder.new.levels result }
+    ensures taken { OnOk result (step.Advances R.source decoder.old decoder.new) }
+    ensures no_form { IfErr result (λ e. ReportsNoForm (code_of e)) }
+    ensures inside { IfOk result (λ r. decoder.new.levels < decoder.old.levels) }
+    ensures outer { OnErr result (decoder.new.levels ≡ decoder.old.levels) }
+    ensures formats { decoder.new.formats ≡ decoder.old.formats }
+{
+    match array_at_hand(decoder) {
+        Some(remaining) => Ok(remaining),
+        None => array_head_slow(decoder),
+    }
+}
+
+// The same where no such head is at hand.
+#[inline(never)]
+fn array_head_slow<R: Source>(decoder: &mut Decoder<R>) -> Result<Remaining>
     ensures read { TakesHead R.refusals (formats_of decoder.old.formats)
         decoder.old.levels (R.source decoder.old.source) (R.source decoder.new.source)
         decoder.new.levels result }
@@ -91,11 +142,61 @@ pub fn end_array<R: Source>(decoder: &mut Decoder<R>, remaining: Remaining) -> R
     }
 }
 
+/// Takes the head of a map of up to 23 pairs that is at hand, without tags, and goes one level in.
+/// None where another head comes, no byte is at hand, or no level is left; then nothing is taken.
+#[inline(always)]
+pub fn map_at_hand<R: Source>(decoder: &mut Decoder<R>) -> Option<Remaining>
+    ensures read { MatchOption result (R.source decoder.new.source ≡ R.source decoder.old.source)
+        (λ remaining. TakesMapHead R.refusals (formats_of decoder.old.formats)
+        decoder.old.levels (R.source decoder.old.source) (R.source decoder.new.source)
+        decoder.new.levels (Ok remaining)) }
+    ensures opened { IfSome result (λ remaining. TakesBeginning kind.Map R.refusals
+        decoder.old.levels (R.source decoder.old.source) (R.source decoder.new.source)
+        decoder.new.levels (Ok remaining)) }
+    ensures taken { OnSome result (step.Advances R.source decoder.old decoder.new) }
+    ensures levels { MatchOption result (decoder.new.levels ≡ decoder.old.levels)
+        (λ remaining. decoder.new.levels < decoder.old.levels) }
+    ensures formats { decoder.new.formats ≡ decoder.old.formats }
+{
+    if decoder.levels == 0 {
+        return None;
+    }
+    match decoder.short_map() {
+        Some(n) => {
+            decoder.levels -= 1;
+            Some(Remaining::Counted(n))
+        }
+        None => None,
+    }
+}
+
 /// Takes the tags and the head of a map, and goes one level in.
 ///
 /// An item of another kind is refused with `invalid type: expected a map`, and a map for which no
 /// level is left with `RecursionLimitExceeded`. No level is entered then.
+#[inline(always)]
 pub fn map_head<R: Source>(decoder: &mut Decoder<R>) -> Result<Remaining>
+    ensures read { TakesMapHead R.refusals (formats_of decoder.old.formats)
+        decoder.old.levels (R.source decoder.old.source)
+        (R.source decoder.new.source) decoder.new.levels result }
+    ensures opened { TakesBeginning kind.Map R.refusals decoder.old.levels
+        (R.source decoder.old.source) (R.source decoder.new.source)
+        decoder.new.levels result }
+    ensures taken { OnOk result (step.Advances R.source decoder.old decoder.new) }
+    ensures no_form { IfErr result (λ e. ReportsNoForm (code_of e)) }
+    ensures inside { IfOk result (λ r. decoder.new.levels < decoder.old.levels) }
+    ensures outer { OnErr result (decoder.new.levels ≡ decoder.old.levels) }
+    ensures formats { decoder.new.formats ≡ decoder.old.formats }
+{
+    match map_at_hand(decoder) {
+        Some(remaining) => Ok(remaining),
+        None => map_head_slow(decoder),
+    }
+}
+
+// The same where no such head is at hand.
+#[inline(never)]
+fn map_head_slow<R: Source>(decoder: &mut Decoder<R>) -> Result<Remaining>
     ensures read { TakesMapHead R.refusals (formats_of decoder.old.formats)
         decoder.old.levels (R.source decoder.old.source)
         (R.source decoder.new.source) decoder.new.levels result }

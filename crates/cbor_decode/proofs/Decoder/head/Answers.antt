@@ -1,4 +1,4 @@
-use Rattle.std.proofs.Common.{◌≡◌, ◌∙◌, ◌%◌, ℕ, Ok, sym, ap, arith}
+use Rattle.std.proofs.Common.{◌≡◌, ◌∙◌, ◌-◌, ◌%◌, ℕ, Ok, sym, ap, arith}
 use Rattle.std.proofs.lemmas.Result.{err_from_is_err_and}
 use Rattle.cbor_model.specs.Major.{major_of}
 use Rattle.cbor_model.specs.Reader.{number_behind}
@@ -6,13 +6,14 @@ use Rattle.cbor_io.specs.Head.{major_number}
 use Rattle.cbor_io.specs.declared.head.Major.TheVariants.{UnsignedInteger, NegativeInteger, ByteString, TextString, Array, Map, Tag}
 use Rattle.cbor_decode.specs.Heads.{head_at, head_of, simple_head}
 use Rattle.cbor_decode.proofs.Steps.{step_map, step_same, stopped_map, head_map}
-use Rattle.cbor_decode.proofs.ShortTexts.{short_text_head}
+use Rattle.cbor_decode.proofs.ShortHeads.{short_head}
 use Rattle.cbor_decode.proofs.Heads.{is_tag, first_simple, first_indefinite, first_stops, first_is}
 use Rattle.cbor_decode.proofs.Decoder.head.Goals as goal
 
 pub returns-in-96-to-119-clause-read : goal.returns-in-96-to-119-clause-read
 returns-in-96-to-119-clause-read g c =
-    step_same _ _ (λ l bs. short_text_head c.args.first bs (omega (arith, c.in-96-to-119)) (omega (arith, c.in-96-to-119)))
+    let here = c.in-96-to-119 in
+    step_same _ _ (λ l bs. short_head c.args.first (c.args.first - 96) TextString (λ e. absurd cc) (omega (arith, here)) (omega (arith, here)) (omega (arith, here)) bs)
 
 pub returns-in-Simple-clause-read : goal.returns-in-Simple-clause-read
 returns-in-Simple-clause-read g c =

@@ -4,15 +4,15 @@ use Rattle.cbor_decode.specs.Gives.{Step}
 use Rattle.cbor_decode_as.specs.Takes.{formats_of}
 use Rattle.cbor_decode.specs.declared.head.Head.TheVariants as head
 use Rattle.cbor_decode_as.specs.TaggedHeads.{IsTaggedHead, opened_at}
-use Rattle.cbor_decode_as.proofs.arrays.ArrayHeads.{whole, head_taken, other_head, too_deep_head}
+use Rattle.cbor_decode_as.proofs.maps.MapHeads.{whole, head_taken, other_head, too_deep_head}
 use Rattle.cbor_decode_as.proofs.arrays.Begins.{begins, begins_stopped, begins_other, begins_too_deep}
-use Rattle.cbor_decode_as.proofs.collection.array_head.Goals as goal
+use Rattle.cbor_decode_as.proofs.collection.map_head_slow.Goals as goal
 
 pub returns-in_default-clause-read : goal.returns-in_default-clause-read
 returns-in_default-clause-read g c =
     let old = c.args.decoder.now in
     let u = c.tagged_head.new.decoder in
-    rw c.mismatch.ensures.source (other_head g.R.Source.refusals (formats_of old.formats) old.levels (g.R.Source.source old.source) (g.R.Source.source u.source) u.levels c.in-Ok.head c.mismatch.result c.in_default.not-Array c.in-Ok.ensures.read)
+    rw c.mismatch.ensures.source (other_head g.R.Source.refusals (formats_of old.formats) old.levels (g.R.Source.source old.source) (g.R.Source.source u.source) u.levels c.in-Ok.head c.mismatch.result c.in_default.not-Map c.in-Ok.ensures.read)
 
 pub returns-in-Ok-enter-clause-read : goal.returns-in-Ok-enter-clause-read
 returns-in-Ok-enter-clause-read g c =
@@ -24,13 +24,13 @@ returns-in-Ok-enter-clause-read g c =
     let at = ap g.R.Source.source c.enter.ensures.source in
     let t = g.R.Source.source c.enter.new.self.source in
     let read = subst (λ (t : Input). Step s t (λ l bs rest. IsTaggedHead f l (whole g.R.Source.refusals f levels s t l bs) u.levels c.in-Ok.head rest)) (sym at) c.in-Ok.ensures.read in
-    head_taken g.R.Source.refusals f levels s t u.levels c.enter.new.self.levels c.in-Ok.head c.in-Array.remaining c.in-Array.is c.in-Ok-enter.ensures.inside read
+    head_taken g.R.Source.refusals f levels s t u.levels c.enter.new.self.levels c.in-Ok.head c.in-Map.remaining c.in-Map.is c.in-Ok-enter.ensures.inside read
 
 pub returns-in-Err-enter-clause-read : goal.returns-in-Err-enter-clause-read
 returns-in-Err-enter-clause-read g c =
     let old = c.args.decoder.now in
     let u = c.tagged_head.new.decoder in
-    rw (c.error-in-Err-enter.ensures.source, c.enter.ensures.source) (too_deep_head g.R.Source.refusals (formats_of old.formats) old.levels (g.R.Source.source old.source) (g.R.Source.source u.source) u.levels c.in-Ok.head c.in-Array.remaining c.error-in-Err-enter.result c.in-Array.is c.in-Err-enter.ensures.none.0 c.in-Ok.ensures.read)
+    rw (c.error-in-Err-enter.ensures.source, c.enter.ensures.source) (too_deep_head g.R.Source.refusals (formats_of old.formats) old.levels (g.R.Source.source old.source) (g.R.Source.source u.source) u.levels c.in-Ok.head c.in-Map.remaining c.error-in-Err-enter.result c.in-Map.is c.in-Err-enter.ensures.none.0 c.in-Ok.ensures.read)
 
 -- ---- whatever follows the head
 
@@ -38,13 +38,13 @@ pub returns-in-Err-clause-opened : goal.returns-in-Err-clause-opened
 returns-in-Err-clause-opened g c =
     let old = c.args.decoder.now in
     let u = c.tagged_head.new.decoder in
-    rw c.error.ensures.source (begins_stopped head.Array g.R.Source.refusals old.levels (g.R.Source.source old.source) (g.R.Source.source u.source) u.refusal c.in-Err.refused c.error.result c.error.ensures.reports c.in-Err.ensures.opened)
+    rw c.error.ensures.source (begins_stopped head.Map g.R.Source.refusals old.levels (g.R.Source.source old.source) (g.R.Source.source u.source) u.refusal c.in-Err.refused c.error.result c.error.ensures.reports c.in-Err.ensures.opened)
 
 pub returns-in_default-clause-opened : goal.returns-in_default-clause-opened
 returns-in_default-clause-opened g c =
     let old = c.args.decoder.now in
     let u = c.tagged_head.new.decoder in
-    rw c.mismatch.ensures.source (begins_other head.Array g.R.Source.refusals old.levels (g.R.Source.source old.source) (g.R.Source.source u.source) u.levels c.in-Ok.head c.mismatch.result c.in_default.not-Array c.in-Ok.ensures.opened)
+    rw c.mismatch.ensures.source (begins_other head.Map g.R.Source.refusals old.levels (g.R.Source.source old.source) (g.R.Source.source u.source) u.levels c.in-Ok.head c.mismatch.result c.in_default.not-Map c.in-Ok.ensures.opened)
 
 pub returns-in-Ok-enter-clause-opened : goal.returns-in-Ok-enter-clause-opened
 returns-in-Ok-enter-clause-opened g c =
@@ -53,10 +53,10 @@ returns-in-Ok-enter-clause-opened g c =
     let s = g.R.Source.source old.source in
     let t = g.R.Source.source c.enter.new.self.source in
     let read = subst (λ (t : Input). Step s t (λ l bs rest. opened_at old.levels bs ≡ Ok ((u.levels, c.in-Ok.head), rest))) (sym (ap g.R.Source.source c.enter.ensures.source)) c.in-Ok.ensures.opened in
-    begins head.Array g.R.Source.refusals old.levels s t u.levels c.enter.new.self.levels c.in-Ok.head c.in-Array.remaining c.in-Array.is c.in-Ok-enter.ensures.inside read
+    begins head.Map g.R.Source.refusals old.levels s t u.levels c.enter.new.self.levels c.in-Ok.head c.in-Map.remaining c.in-Map.is c.in-Ok-enter.ensures.inside read
 
 pub returns-in-Err-enter-clause-opened : goal.returns-in-Err-enter-clause-opened
 returns-in-Err-enter-clause-opened g c =
     let old = c.args.decoder.now in
     let u = c.tagged_head.new.decoder in
-    rw (c.error-in-Err-enter.ensures.source, c.enter.ensures.source) (begins_too_deep head.Array g.R.Source.refusals old.levels (g.R.Source.source old.source) (g.R.Source.source u.source) u.levels c.in-Ok.head c.error-in-Err-enter.result c.in-Err-enter.ensures.none.0 c.in-Ok.ensures.opened)
+    rw (c.error-in-Err-enter.ensures.source, c.enter.ensures.source) (begins_too_deep head.Map g.R.Source.refusals old.levels (g.R.Source.source old.source) (g.R.Source.source u.source) u.levels c.in-Ok.head c.error-in-Err-enter.result c.in-Err-enter.ensures.none.0 c.in-Ok.ensures.opened)

@@ -1,0 +1,12 @@
+use Rattle.std.proofs.Common.{rules, ◌≡◌, ◌-◌, Some, slice_get, arith}
+use Rattle.cbor_io.specs.declared.head.Major.TheVariants.{Array}
+use Rattle.cbor_decode.proofs.ShortHeads.{short_step}
+use Rattle.cbor_decode.proofs.Decoder.short_array.Goals as goal
+
+pub returns-in-Some-128-to-151-clause-read : goal.returns-in-Some-128-to-151-clause-read
+returns-in-Some-128-to-151-clause-read g c =
+    let here = c.in-Some-128-to-151 in
+    let first = here.first in
+    let hand = g.R.Source.at_hand c.args.self.now.source in
+    let front : slice_get hand 0 ≡ Some first = search rules in
+    short_step first (first - 128) Array (λ e. absurd cc) (omega (arith, here)) (omega (arith, here)) (omega (arith, here)) _ _ hand front c.advance.ensures.took
