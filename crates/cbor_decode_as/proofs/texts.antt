@@ -5,4 +5,5 @@ pub mod Contents
 pub mod MemoryAsked
 pub mod Lending
 pub mod ByteStrings
+pub mod Characters
 pub mod Identifiers

@@ -12,6 +12,7 @@
 
 pub mod borrowed;
 pub mod byte_string;
+pub mod character;
 pub mod collection;
 pub mod content;
 pub mod floats;

@@ -9,8 +9,9 @@ ghost use Rattle.cbor_decode_as.specs.Takes.{IsMessage};
 use crate::de::Deserializer;
 use crate::deserialize::{Deserialize, DeserializeOwned, Readable};
 use cbor_decode_as::borrowed::EitherStr;
+use cbor_decode_as::character::ascii_at_hand;
 use cbor_io::error::{Error, Result};
-use cbor_read::Read;
+use cbor_read::{Read, Source};
 use std::alloc::Global;
 
 const NO_CHARACTER: &str = "invalid type: expected a character";
@@ -59,6 +60,11 @@ impl Readable for char {
     ghost wrong_forms = { never };
 
     ghost passes_over = { true };
+
+    #[inline(always)]
+    fn at_hand<R: Source>(de: &mut Deserializer<R>) -> Option<char> {
+        ascii_at_hand(&mut de.decoder)
+    }
 }
 
 impl<'de, R: Read<'de>> Deserialize<'de, R> for char {
