@@ -3,3 +3,5 @@ pub mod Scalars
 pub mod Numbers
 pub mod FloatNumbers
 pub mod Nulls
+pub mod WholeNumbers
+pub mod FloatHeads

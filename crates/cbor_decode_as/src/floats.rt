@@ -6,18 +6,21 @@ ghost use Rattle.cbor_io.specs.Error.{code_of};
 ghost use Rattle.cbor_decode.specs.Decoder.{SameSettings};
 ghost use Rattle.cbor_decode.specs.Gives.{ReportsNoForm};
 ghost use Rattle.cbor_decode_as.specs.Scalars.{IsFloatOf, IsSingleOf};
+ghost use Rattle.cbor_decode_as.specs.TaggedHeads.{RefusesBehind};
 ghost use Rattle.cbor_decode.specs.Steps as step;
 ghost use Rattle.cbor_decode_as.specs.Calls as call;
 
-use crate::scalar::read_float;
-use cbor_decode::Decoder;
+use crate::exact::{exact_f32, exact_f64};
+use crate::head::{HeadAt, skip_mismatch};
+use crate::scalar::scalar_head;
+use cbor_decode::{Decoder, Head};
 use cbor_io::error::{Error, Result};
 use cbor_read::Source;
 use cbor_value::Float;
 use std::num::{f32_from_bits_with_nan, f64_from_bits_with_nan};
 
-/// Reads a float of 16, 32 or 64 bits as the number that it is. What isn't whole is refused by its
-/// fault, and another item by a message.
+/// Reads a float of 16, 32 or 64 bits, or an integer that an `f64` holds exactly, as the number that
+/// it is. What isn't whole is refused by its fault, and another item by a message.
 #[inline(always)]
 pub fn read_f64<R: Source>(decoder: &mut Decoder<R>) -> Result<f64>
     ensures read { call.TakesItem R.source R.refusals (PassesTags IsFloatOf)
@@ -53,7 +56,7 @@ fn other_f64<R: Source>(decoder: &mut Decoder<R>) -> Result<f64>
     }
 }
 
-// Reads a float of any width, within its tags, as an `f64`.
+// Reads a float of any width or an integer, within its tags, as an `f64`.
 #[inline(always)]
 fn f64_slow<R: Source>(decoder: &mut Decoder<R>) -> Result<f64>
     ensures read { call.TakesItem R.source R.refusals (PassesTags IsFloatOf)
@@ -64,14 +67,25 @@ fn f64_slow<R: Source>(decoder: &mut Decoder<R>) -> Result<f64>
     ensures memory { IfErr result (call.TakesNoMemory R.source (PassesTags IsFloatOf) decoder.old) }
     ensures settings { SameSettings decoder.old decoder.new }
 {
-    match read_float(decoder) {
-        Ok(float) => Ok(float.to_f64()),
-        Err(e) => Err(e),
+    let found = match scalar_head(decoder) {
+        Ok(found) => found,
+        Err(refused) => return Err(decoder.error(refused)),
+    };
+    match exact_f64(found.head) {
+        Some(number) => Ok(number),
+        None => Err(no_float(
+            decoder,
+            HeadAt {
+                head: found.head,
+                levels: found.levels,
+            },
+            "integer out of range: expected f64",
+        )),
     }
 }
 
-/// Reads a float of 16, 32 or 64 bits whose number is one of 32 bits. It refuses as [`read_f64`]
-/// does.
+/// Reads a float of 16, 32 or 64 bits or an integer, whose number an `f32` holds exactly. It refuses
+/// as [`read_f64`] does.
 #[inline(always)]
 pub fn read_f32<R: Source>(decoder: &mut Decoder<R>) -> Result<f32>
     ensures read { call.TakesItem R.source R.refusals (PassesTags IsSingleOf)
@@ -90,8 +104,8 @@ pub fn read_f32<R: Source>(decoder: &mut Decoder<R>) -> Result<f32>
     }
 }
 
-// Reads a float of any width, within its tags, as an `f32`.
-#[inline(always)]
+// Reads a float of any width or an integer, within its tags, as an `f32`.
+#[inline(never)]
 fn f32_slow<R: Source>(decoder: &mut Decoder<R>) -> Result<f32>
     ensures read { call.TakesItem R.source R.refusals (PassesTags IsSingleOf)
         decoder.old decoder.new result }
@@ -102,12 +116,43 @@ fn f32_slow<R: Source>(decoder: &mut Decoder<R>) -> Result<f32>
         (call.TakesNoMemory R.source (PassesTags IsSingleOf) decoder.old) }
     ensures settings { SameSettings decoder.old decoder.new }
 {
-    let float = match read_float(decoder) {
-        Ok(float) => float,
-        Err(e) => return Err(e),
+    let found = match scalar_head(decoder) {
+        Ok(found) => found,
+        Err(refused) => return Err(decoder.error(refused)),
     };
-    match float.to_f32() {
+    match exact_f32(found.head) {
         Some(x) => Ok(x),
-        None => Err(Error::message(decoder.alloc, "float out of range: expected f32")),
+        None => Err(no_float(
+            decoder,
+            HeadAt {
+                head: found.head,
+                levels: found.levels,
+            },
+            "integer out of range: expected f32",
+        )),
+    }
+}
+
+// The error of an item that isn't a number that the type holds; the message is for an integer. An
+// f64 holds each float.
+#[cold]
+#[inline(never)]
+fn no_float<R: Source>(decoder: &mut Decoder<R>, found: HeadAt, message: &'static str) -> Error
+    ensures fault { RefusesBehind R.refusals found (R.source decoder.old.source) result }
+    ensures no_form { ReportsNoForm (code_of result) }
+    ensures took { step.TookSome R.source decoder.old decoder.new }
+    ensures settings { SameSettings decoder.old decoder.new }
+{
+    match found.head {
+        Head::Unsigned(_) | Head::Negative(_) => Error::message(decoder.alloc, message),
+        Head::Float(_) => Error::message(decoder.alloc, "float out of range: expected f32"),
+        _ => skip_mismatch(
+            decoder,
+            HeadAt {
+                head: found.head,
+                levels: found.levels,
+            },
+            "invalid type: expected a float",
+        ),
     }
 }

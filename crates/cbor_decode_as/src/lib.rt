@@ -15,6 +15,7 @@ pub mod byte_string;
 pub mod character;
 pub mod collection;
 pub mod content;
+mod exact;
 pub mod floats;
 pub mod head;
 pub mod identifier;

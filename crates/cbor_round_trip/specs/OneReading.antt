@@ -32,6 +32,8 @@ one_float (raw.float w n) f g h k = h ∙ sym k
 one_float _ f g h k = absurd h
 
 pub one_number : (r : Raw) (x y : ieee.Float) → IsFloatOf r x → IsFloatOf r y → x ≡ y
+one_number (raw.unsigned w n) x y h k = h.0 ∙ sym k.0
+one_number (raw.negative w n) x y h k = h.0 ∙ sym k.0
 one_number (raw.float w n) x y h k = sym h ∙ k
 one_number _ x y h k = absurd h
 

@@ -6,8 +6,9 @@ use cbor_decode_as::floats::{read_f32, read_f64};
 use cbor_io::error::Result;
 use cbor_read::Read;
 
-/// A float of 16, 32 or 64 bits whose number an `f32` holds exactly. Another float is refused with
-/// `float out of range: expected f32`, and a whole number with `invalid type: expected a float`. A
+/// A float of 16, 32 or 64 bits, or an integer, whose number an `f32` holds exactly. Another float is
+/// refused with `float out of range: expected f32`, another integer with
+/// `integer out of range: expected f32`, and another item with `invalid type: expected a float`. A
 /// NaN is read as a NaN, of no particular sign or payload.
 impl Readable for f32 {
     ghost use Rattle.std.specs.Prelude.{true};
@@ -35,9 +36,10 @@ impl DeserializeOwned for f32 {
     ghost same = { λ f a b r x h. h };
 }
 
-/// A float of 16, 32 or 64 bits, of which an `f64` holds each number exactly. A whole number is
-/// refused with `invalid type: expected a float`. A NaN is read as a NaN, of no particular sign or
-/// payload.
+/// A float of 16, 32 or 64 bits, of which an `f64` holds each number exactly, or an integer that it
+/// holds exactly, as 0 to 2^53. Another integer is refused with `integer out of range: expected f64`,
+/// and another item with `invalid type: expected a float`. A NaN is read as a NaN, of no particular
+/// sign or payload.
 impl Readable for f64 {
     ghost use Rattle.std.specs.Prelude.{true};
     ghost use Rattle.cbor_model.specs.Readable.{PassesTags};

@@ -1,27 +1,53 @@
-use Rattle.cbor_io.specs.Error.{code_of, offset_of}
-use Rattle.cbor_model.specs.Reader.{item_at}
-use Rattle.cbor_decode_as.specs.Takes.{formats_of, raws}
-use Rattle.cbor_decode_as.proofs.numbers.FloatNumbers.{double_read, double_refused, double_memory}
+use Rattle.std.specs.Float.Ieee as ieee
+use Rattle.cbor_decode_as.specs.Takes.{formats_of}
+use Rattle.cbor_decode_as.specs.Scalars.{IsFloatOf}
+use Rattle.cbor_decode_as.proofs.numbers.FloatHeads.{number_read, number_none, number_unread}
+use Rattle.cbor_decode_as.proofs.heads.PassedOver.{behind_whole, unopened_whole}
+use Rattle.cbor_decode_as.proofs.numbers.Scalars.{refuses_on}
 use Rattle.cbor_decode_as.proofs.floats.f64_slow.Goals as goal
 
-pub returns-in-Ok-clause-read : goal.returns-in-Ok-clause-read
-returns-in-Ok-clause-read g c =
-    let decoder = c.args.decoder.now in
-    double_read g.R.Source.refusals
-    (λ l bs. item_at (raws (formats_of decoder.formats) l) decoder.levels bs)
-    (g.R.Source.source decoder.source) (g.R.Source.source c.read_float.new.decoder.source)
-    c.in-Ok.float c.to_f64.result c.to_f64.ensures c.in-Ok.ensures.read
+abbrev itself : ieee.Float → ieee.Float
+itself x = x
 
-pub returns-in-Err-clause-read : goal.returns-in-Err-clause-read
-returns-in-Err-clause-read g c =
-    let decoder = c.args.decoder.now in
-    double_refused g.R.Source.refusals
-    (λ l bs. item_at (raws (formats_of decoder.formats) l) decoder.levels bs)
-    (g.R.Source.source decoder.source) (code_of c.in-Err.e) (offset_of c.in-Err.e)
-    c.in-Err.ensures.read
+pub returns-in-Some-clause-read : goal.returns-in-Some-clause-read
+returns-in-Some-clause-read g c =
+    let f = formats_of c.args.decoder.now.formats in
+    let s = g.R.Source.source c.args.decoder.now.source in
+    let u = c.scalar_head.new.decoder in
+    number_read g.R.Source.refusals f IsFloatOf c.args.decoder.now.levels s
+    (g.R.Source.source u.source) u.refusal itself c.in-Ok.found.head c.in-Some.number (λ r is. is)
+    c.in-Some.ensures c.in-Ok.ensures.read
 
-pub returns-in-Err-clause-memory : goal.returns-in-Err-clause-memory
-returns-in-Err-clause-memory g c =
-    let decoder = c.args.decoder.now in
-    double_memory (formats_of decoder.formats) decoder.levels (g.R.Source.source decoder.source)
-    c.in-Err.e c.in-Err.ensures.memory
+pub returns-in-None-clause-read : goal.returns-in-None-clause-read
+returns-in-None-clause-read g c =
+    let f = formats_of c.args.decoder.now.formats in
+    let s = g.R.Source.source c.args.decoder.now.source in
+    let u = c.scalar_head.new.decoder in
+    refuses_on
+    (number_none g.R.Source.refusals f IsFloatOf c.args.decoder.now.levels s
+    (g.R.Source.source u.source) u.refusal itself c.in-Ok.found.head c.no_float.result (λ r x h. h)
+    (λ r x h is. c.in-None.ensures x is) c.in-Ok.ensures.read)
+    c.no_float.ensures.took
+
+pub returns-in-None-clause-memory : goal.returns-in-None-clause-memory
+returns-in-None-clause-memory g c = λ e.
+    let f = formats_of c.args.decoder.now.formats in
+    let s = g.R.Source.source c.args.decoder.now.source in
+    let u = c.scalar_head.new.decoder in
+    number_unread g.R.Source.refusals f IsFloatOf c.args.decoder.now.levels s
+    (g.R.Source.source u.source) u.refusal itself c.in-Ok.found.head (λ r x h. h)
+    (λ r x h is. c.in-None.ensures x is) c.in-Ok.ensures.read
+
+pub returns-in-Err-clause-fault : goal.returns-in-Err-clause-fault
+returns-in-Err-clause-fault g c =
+    let u = c.scalar_head.new.decoder in
+    unopened_whole g.R.Source.refusals c.args.decoder.now.levels
+    (g.R.Source.source c.args.decoder.now.source) u.refusal c.in-Err.refused c.error.result
+    c.in-Err.ensures.opened.reported c.error.ensures.reports
+
+pub returns-in-None-clause-fault : goal.returns-in-None-clause-fault
+returns-in-None-clause-fault g c =
+    let s = g.R.Source.source c.args.decoder.now.source in
+    let m = g.R.Source.source c.scalar_head.new.decoder.source in
+    behind_whole g.R.Source.refusals c.in-Ok.found c.args.decoder.now.levels s m c.no_float.result
+    c.in-Ok.ensures.opened c.no_float.ensures.fault
