@@ -43,6 +43,14 @@ fn makes_a_value_within_a_tag(rt: HostRuntime) -> Done {
 }
 
 #[test]
+fn reads_an_integer_as_a_float(rt: HostRuntime) -> Done {
+    let alloc = rt.alloc();
+    assert_eq!(rt; from_value::<f64>(alloc, Value::Integer(-52))?, -52.0);
+    let too_long = from_value::<f64>(alloc, Value::Integer((1 << 53) + 1));
+    is_refused(too_long, "integer out of range: expected f64")
+}
+
+#[test]
 fn reads_again_what_it_wrote(rt: HostRuntime) -> Done {
     let alloc = rt.alloc();
     let again: (u32, Option<bool>) = write_and_read(alloc, &(500u32, Some(true)))?;
