@@ -5,6 +5,10 @@ use Rattle.cbor_read.specs.Source.{Input, Stays, Refused, reader_refusals}
 use Rattle.cbor_io.specs.declared.read_error.ReadError.{ReadError}
 use Rattle.cbor_buffered.specs.declared.buffered_read.BufferedRead.{BufferedRead}
 
+-- the reader that it stands before
+abbrev pub held_reader : {R : Type 0} → BufferedRead R → R
+held_reader s = s.reader
+
 -- the bytes of the block that were read and not taken
 abbrev pub read_ahead : {R : Type 0} → BufferedRead R → List ℕ
 read_ahead s = drop s.taken (take s.filled s.block.items)

@@ -72,6 +72,7 @@ impl<R: io::Read> BufferedRead<R> {
     ghost use Rattle.cbor_read.specs.Source.{start_of_reader, reader_input, Buffered, Stays};
     ghost use Rattle.cbor_read.specs.Source.{RefusedByte, reader_refusals};
     ghost use Rattle.cbor_buffered.specs.Block.{input_of_buffered, in_block, RefusedHere};
+    ghost use Rattle.cbor_buffered.specs.Block.{held_reader, read_ahead};
 
     /// The bytes of this reader, none of them taken.
     ///
@@ -88,6 +89,8 @@ impl<R: io::Read> BufferedRead<R> {
         R: Drop,
         ensures ok { IfOk result (λ s. input_of_buffered R.remaining s
             ≡ start_of_reader (R.remaining reader)) }
+        ensures reader { IfOk result (λ s. held_reader s ≡ reader) }
+        ensures ahead { IfOk result (λ s. read_ahead s ≡ []) }
         ensures err { IfErr result IsMemory }
     {
         BufferedRead::at_offset(alloc, reader, 0)
@@ -108,6 +111,8 @@ impl<R: io::Read> BufferedRead<R> {
         R: Drop,
         ensures ok { IfOk result (λ s. input_of_buffered R.remaining s
             ≡ reader_input None (R.remaining reader) [] offset) }
+        ensures reader { IfOk result (λ s. held_reader s ≡ reader) }
+        ensures ahead { IfOk result (λ s. read_ahead s ≡ []) }
         ensures err { IfErr result IsMemory }
     {
         Ok(BufferedRead {
@@ -131,7 +136,9 @@ impl<R: io::Read> BufferedRead<R> {
     /// assert_eq!(rt; ahead.as_slice(), b"\x01\x02".as_slice());
     /// ```
     pub fn into_inner(self) -> (R, Vec<u8>)
-        ensures { prepend_known result.1.items (R.remaining result.0)
+        ensures reader { result.0 ≡ held_reader self }
+        ensures ahead { result.1.items ≡ read_ahead self }
+        ensures to_come { prepend_known result.1.items (R.remaining result.0)
             ≡ (input_of_buffered R.remaining self).to_come }
     {
         let BufferedRead {
@@ -159,9 +166,9 @@ impl<R: io::Read> BufferedRead<R> {
     {
         let count = self.reader.read(&mut self.block)?;
         self.start += self.end as u64;
-        self.taken = 0;
         self.end = count.min((u64::MAX - self.start) as usize);
         self.filled = count;
+        self.taken = 0;
         Ok(())
     }
 
