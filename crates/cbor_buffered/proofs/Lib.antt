@@ -1,3 +1,4 @@
 pub mod Block
 pub mod Refusals
+pub mod Sent
 pub mod Steps
