@@ -1,5 +1,7 @@
-//! A reader that gives its bytes in pieces, and fails at one of its calls.
+//! A reader that gives its bytes in pieces, a writer that takes them in pieces, and failures of both
+//! at one of their calls.
 
+use std::alloc::{AllocError, Global};
 use std::io;
 use std::io::ErrorKind;
 
@@ -41,5 +43,57 @@ impl io::Read for Pieces<'_> {
         buf[..count].copy_from_slice(&self.rest[..count]);
         self.rest = &self.rest[count..];
         Ok(count)
+    }
+}
+
+/// A writer that takes at most so many bytes a call, and counts its calls.
+#[derive(Drop)]
+pub struct Taker {
+    pub taken: Vec<u8>,
+    pub calls: usize,
+    pub flushes: usize,
+    piece: usize,
+    fails_at: usize,
+    kind: ErrorKind,
+}
+
+impl Taker {
+    /// It never fails.
+    pub fn new(alloc: Global, piece: usize) -> Result<Taker, AllocError> {
+        Taker::failing(alloc, piece, 0, ErrorKind::Other)
+    }
+
+    /// It fails at this call, of which the first is 1, and goes on after it. It has its memory from
+    /// the beginning: no write of up to 10,000 bytes fails for want of it.
+    pub fn failing(
+        alloc: Global,
+        piece: usize,
+        fails_at: usize,
+        kind: ErrorKind,
+    ) -> Result<Taker, AllocError> {
+        Ok(Taker {
+            taken: Vec::with_capacity(alloc, 10_000)?,
+            calls: 0,
+            flushes: 0,
+            piece,
+            fails_at,
+            kind,
+        })
+    }
+}
+
+impl io::Write for Taker {
+    fn write(&mut self, buf: &[u8]) -> io::Result<usize> {
+        self.calls = self.calls.saturating_add(1);
+        if self.calls == self.fails_at {
+            return Err(io::Error::from(self.kind));
+        }
+        let count = buf.len().min(self.piece);
+        io::Write::write(&mut self.taken, &buf[..count])
+    }
+
+    fn flush(&mut self) -> io::Result<()> {
+        self.flushes = self.flushes.saturating_add(1);
+        Ok(())
     }
 }

@@ -1,4 +1,5 @@
-//! Tests of the source that reads ahead: its calls, what it asks of its reader, and items by it.
+//! Tests of the source that reads ahead and of the sink that holds what is written: their calls, what
+//! they ask of their devices, and items by them.
 #![tactic(auto)]
 
 #[cfg(test)]
@@ -11,3 +12,5 @@ mod devices;
 mod faults;
 #[cfg(test)]
 mod items;
+#[cfg(test)]
+mod sink;
