@@ -64,9 +64,10 @@ DEVICES = {
     'read ahead': 5,
     'seven bytes a call': 3,
     'read, and written by a BufWriter': 4,
+    'read, and written in blocks': 6,
 }
 # The Rust crate's way that is the nearest, where it has not the same.
-NEAREST = {5: 2}
+NEAREST = {5: 2, 6: 4}
 DEVICE_KINDS = 'biuSft'
 
 

@@ -8,7 +8,7 @@ use pieces::Sevens;
 use serde_cbor::de::{
     BufferedRead, Deserialize, DeserializeOwned, Deserializer, IoRead, SliceRead,
 };
-use serde_cbor::ser::{IoWrite, Serialize};
+use serde_cbor::ser::{BufferedWrite, IoWrite, Serialize};
 use serde_cbor::{Result, from_reader, from_slice, to_vec, to_writer};
 use std::alloc::Global;
 use std::io::{BufReader, BufWriter, Read, Write};
@@ -38,7 +38,7 @@ fn answer_input(rt: &HostRuntime) -> Result<Option<usize>> {
     let alloc = rt.alloc();
     match input.as_slice() {
         [task @ 0..=1, times, kind, item @ ..] => of_slice(alloc, *task == 1, *times, *kind, item),
-        [task @ 2..=5, times, kind, item @ ..] => of_device(alloc, *task, *times, *kind, item),
+        [task @ 2..=6, times, kind, item @ ..] => of_device(alloc, *task, *times, *kind, item),
         _ => Ok(None),
     }
 }
@@ -83,7 +83,8 @@ fn turns<'a, T: Deserialize<'a, SliceRead<'a>> + Serialize>(
 }
 
 // From a buffered reader (2), from one that gives seven bytes a call (3), from a slice and to a
-// buffered writer (4), or from a reader that is read ahead (5).
+// buffered writer (4), from a reader that is read ahead (5), or from a slice and to a sink that
+// holds a block (6).
 fn of_device(alloc: Global, task: u8, times: u8, kind: u8, item: &[u8]) -> Result<Option<usize>> {
     match kind {
         b'b' => device_turns::<bool>(alloc, task, times, item),
@@ -115,7 +116,8 @@ where
                 let _: Vec<T> = from_reader(alloc, Sevens::new(item))?;
             }
             4 => written = through_writer::<T>(alloc, item)?,
-            _ => read_ahead::<T>(alloc, item)?,
+            5 => read_ahead::<T>(alloc, item)?,
+            _ => written = in_blocks::<T>(alloc, item)?,
         }
     }
     Ok(Some(written))
@@ -131,6 +133,19 @@ fn through_writer<'a, T: Deserialize<'a, SliceRead<'a>> + Serialize>(
     to_writer(alloc, &mut IoWrite::new(&mut writer), &list)?;
     writer.flush()?;
     drop(writer);
+    Ok(bytes.len())
+}
+
+fn in_blocks<'a, T: Deserialize<'a, SliceRead<'a>> + Serialize>(
+    alloc: Global,
+    item: &'a [u8],
+) -> Result<usize> {
+    let list: Vec<T> = from_slice(alloc, item)?;
+    let bytes: Vec<u8> = Vec::new(alloc);
+    let mut sink = BufferedWrite::new(alloc, bytes)?;
+    to_writer(alloc, &mut sink, &list)?;
+    sink.flush()?;
+    let (bytes, _unsent) = sink.into_inner();
     Ok(bytes.len())
 }
 

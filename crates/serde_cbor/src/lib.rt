@@ -37,6 +37,7 @@
 
 pub mod de;
 pub mod literal;
+pub mod ser;
 pub mod stream;
 pub mod tags;
 
@@ -54,7 +55,6 @@ pub use cbor_read as read;
 pub use cbor_round_trip as round_trip;
 pub use cbor_round_trip::RoundTrip;
 pub use cbor_rules as rules;
-pub use cbor_ser as ser;
 pub use cbor_ser::{Serializer, to_vec, to_vec_packed, to_writer};
 pub use cbor_strict as strict;
 pub use cbor_strict::{from_slice_canonical, from_slice_canonical_as};

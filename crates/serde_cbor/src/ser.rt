@@ -1,0 +1,10 @@
+//! Writing: [`to_vec`] encodes a value, or a type that says its document ([`Serialize`]), and
+//! [`to_writer`] writes it to a sink, as a [`Serializer`] does one after the other.
+
+pub use cbor_buffered::BufferedWrite;
+pub use cbor_ser::{
+    CollectionSerializer, FieldDocument, FieldsDocument, IoWrite, Items, NamedFields,
+    OptionalField, PartsDocument, Serialize, SerializeField, SerializeFields, SerializeTuple,
+    SerializeVariant, Serializer, SliceWrite, StructSerializer, TupleDocuments, VariantDocument,
+    Write, WrittenBy, to_vec, to_vec_packed, to_writer,
+};
