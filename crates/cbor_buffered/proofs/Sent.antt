@@ -1,8 +1,7 @@
 -- What is held of a block and what was sent of it.
 use Rattle.std.proofs.Common.{◌≡◌, ℕ, ◌+◌, ◌-◌, ◌≤◌, List, [], ◌++◌, length, take, drop}
 use Rattle.std.proofs.Common.{Option, Some, None, refl, sym, ap, subst, ◌∙◌, arith}
-use Rattle.std.proofs.Common.{append-nil, length-take, Result, Ok, Err}
-use Rattle.std.specs.Result.{IsErr}
+use Rattle.std.proofs.Common.{append-nil, length-take, take_all, Result, Ok, Err, OnOk}
 use Rattle.std.proofs.lemmas.List.{drop-drop, drop_all, drop-append-le, length-drop}
 use Rattle.std.proofs.lemmas.List.{length-take-le, take-append-drop, take-take}
 use Rattle.std.proofs.KnownBytes.{Appends-trans}
@@ -72,7 +71,7 @@ front_grown a b c xs done n fits before more =
     subst (Appends a c) joined (Appends-trans a b c _ _ before more)
 
 -- a front of it was written
-pub some_front : (a b : Option (List ℕ)) (piece : List ℕ) (n : ℕ) → Appends a b (take n piece)
+some_front : (a b : Option (List ℕ)) (piece : List ℕ) (n : ℕ) → Appends a b (take n piece)
     → AppendsBeginning piece a b
 some_front a b piece n p =
     record {
@@ -82,8 +81,9 @@ some_front a b piece n p =
       written = p;
     }
 
--- a call that was refused
-pub refused_after : {T E : Type 0} (a b : Option (List ℕ)) (piece : List ℕ) (r : Result T E)
-    → IsErr r → AppendsBeginning piece a b → Wrote a piece b r
-refused_after a b piece (Ok x) is h = absurd (cc)
-refused_after a b piece (Err e) is h = record { ok = tt; err = h }
+-- Where a call says that all was written, all of it was.
+pub wrote_front : {T E : Type 0} (a b : Option (List ℕ)) (piece : List ℕ) (n : ℕ)
+    (r : Result T E) → OnOk r (n ≡ length piece) → Appends a b (take n piece) → Wrote a piece b r
+wrote_front a b piece n (Ok x) all p =
+    record { ok = subst (Appends a b) (take_all n piece (omega (arith, all))) p; err = tt }
+wrote_front a b piece n (Err e) all p = record { ok = tt; err = some_front a b piece n p }

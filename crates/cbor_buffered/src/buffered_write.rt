@@ -4,7 +4,7 @@ ghost use Rattle.std.specs.Prelude.{◌≡◌, ◌+◌, ◌≤◌, [], length, t
 ghost use Rattle.std.specs.Prelude.{IfOk, IfErr, OnOk, vec_len};
 ghost use Rattle.std.specs.Io.KnownBytes.{append_known, Appends, Keeps};
 
-use cbor_io::error::Result;
+use cbor_io::error::{Error, Result};
 use cbor_io::write::Write;
 use std::alloc::Global;
 use std::io::ErrorKind;
@@ -41,9 +41,14 @@ pub struct BufferedWrite<W> {
     block: Vec<u8>,
     sent: usize,
     held: usize,
+    // why the last piece that was refused was
+    fault: io::Error,
     ghost ordered: { sent ≤ held },
     ghost within: { held ≤ vec_len block },
 }
+
+// A piece was refused, for the fault that is left in the sink.
+struct Refused;
 
 impl<W: io::Write> BufferedWrite<W> {
     ghost use Rattle.cbor_io.specs.Error.{IsOutOfMemory};
@@ -76,6 +81,7 @@ impl<W: io::Write> BufferedWrite<W> {
             block: vec![in alloc; 0; BLOCK]?,
             sent: 0,
             held: 0,
+            fault: io::Error::from(ErrorKind::Other),
         })
     }
 
@@ -127,6 +133,7 @@ impl<W: io::Write> BufferedWrite<W> {
             mut block,
             sent,
             held,
+            fault: _,
         } = self;
         block.truncate(held);
         block.drain(..sent);
@@ -162,12 +169,9 @@ impl<W: io::Write> BufferedWrite<W> {
 
     // Sends the block before a piece that it has no room for, and a piece of a block's length or
     // more by itself.
-    #[cold]
-    #[inline(never)]
-    fn write_past_block(&mut self, piece: &[u8]) -> Result<()>
-        ensures written { Wrote (buffered_contents W.contents self.old) piece.now
+    fn write_through(&mut self, piece: &[u8]) -> io::Result<()>
+        ensures { Wrote (buffered_contents W.contents self.old) piece.now
             (buffered_contents W.contents self.new) result }
-        ensures refused { IfErr result IsFault }
     {
         self.send_block()?;
         if piece.len() < self.block.len() {
@@ -175,8 +179,24 @@ impl<W: io::Write> BufferedWrite<W> {
             return Ok(());
         }
         let (_, answer) = send(&mut self.writer, piece);
-        answer?;
-        Ok(())
+        answer
+    }
+
+    // The same. A fault is left in the sink: where a result holds it, each piece for which there is
+    // room clears a place for it.
+    #[cold]
+    #[inline(never)]
+    fn write_past_block(&mut self, piece: &[u8]) -> std::result::Result<(), Refused>
+        ensures { Wrote (buffered_contents W.contents self.old) piece.now
+            (buffered_contents W.contents self.new) result }
+    {
+        match self.write_through(piece) {
+            Ok(()) => Ok(()),
+            Err(fault) => {
+                self.fault = fault;
+                Err(Refused)
+            }
+        }
     }
 }
 
@@ -191,7 +211,10 @@ impl<W: io::Write> Write for BufferedWrite<W> {
     #[inline(always)]
     fn write_all(&mut self, buf: &[u8]) -> Result<()> {
         if self.block.len() - self.held < buf.len() {
-            return self.write_past_block(buf);
+            return match self.write_past_block(buf) {
+                Ok(()) => Ok(()),
+                Err(Refused) => Err(Error::from(self.fault)),
+            };
         }
         self.hold(buf);
         Ok(())
