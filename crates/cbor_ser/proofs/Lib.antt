@@ -1,3 +1,4 @@
+pub mod Narrowed
 pub mod Writing
 pub mod Ranges
 pub mod Unstored
@@ -8,4 +9,5 @@ pub mod WrittenHeads
 pub mod Users
 pub mod Named
 pub mod Lists
+pub mod Values
 pub mod facts

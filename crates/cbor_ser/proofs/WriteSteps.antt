@@ -19,10 +19,12 @@ use Rattle.cbor_value.specs.View.{float_view}
 use Rattle.cbor_io.specs.declared.error.Error.{Error}
 use Rattle.cbor_io.specs.Write.{AppendsBeginning, Wrote, HasRoomFor, TakesWhatFits}
 use Rattle.cbor_ser.specs.Written.{IsUnstorable, DocumentRefused}
+use Rattle.cbor_ser.specs.Narrowed.{narrowed, narrowed_part}
 use Rattle.cbor_model.specs.Unstored.{StandsBefore, StandsBeforeIn}
 use Rattle.cbor_ser.specs.Serialized.{Added, Stopped, Serialized, Spells, bytes_under, WroteValues, StopsBefore, EndsBefore}
 use Rattle.cbor_ser.specs.declared.serializer.Settings.{Settings}
 use Rattle.cbor_ser.specs.declared.serializer.Serializer.{Serializer}
+use Rattle.cbor_ser.proofs.Narrowed.{wide, part_storable, parts_narrowed}
 use Rattle.cbor_ser.proofs.Beginnings.{began_more, began_then, room_behind, room_first, refused_room}
 
 -- ---- what is always stored
@@ -53,17 +55,18 @@ pub record Same (s : Settings) (f g : Part) : Type 0 where
   pub storable : IsStorablePart f → IsStorablePart g
   pub unstorable : IsStorablePart g → IsStorablePart f
   pub in_range : IsPartInRange f → IsPartInRange g
-  pub before : (front : List ℕ) → StandsBeforeIn g s.packed s.legacy front → StandsBeforeIn f s.packed s.legacy front
+  pub before : (front : List ℕ) → StandsBeforeIn (narrowed_part s.shortest g) s.packed s.legacy front
+      → StandsBeforeIn (narrowed_part s.shortest f) s.packed s.legacy front
 
 -- a document is its parts
 parts_same : (s : Settings) (d : Doc) → Same s (parts d) (item d)
 unfolding part_bytes
 parts_same s d = record {
-  same = parts_bytes d s.packed s.legacy;
+  same = ap (λ (p : Part). part_bytes p s.packed s.legacy) (parts_narrowed s.shortest d) ∙ parts_bytes (narrowed s.shortest d) s.packed s.legacy;
   storable = storable_parts d;
   unstorable = parts_storable d;
   in_range = parts_in_range d;
-  before = before_parts s.packed s.legacy d;
+  before = λ front h. subst (λ (p : Part). StandsBeforeIn p s.packed s.legacy front) (sym (parts_narrowed s.shortest d)) (before_parts s.packed s.legacy (narrowed s.shortest d) front h);
 }
 
 pub added_then : {W : Type 0} {written : W → Option (List ℕ)} {references : W → List ℕ} {capacity : W → Option ℕ} {old mid new : Serializer W} {f g : Part} → Added written references capacity old f mid → Added written references capacity mid g new → Added written references capacity old (both f g) new
@@ -86,14 +89,30 @@ room_then {written = written} {capacity = capacity} {old = old} {mid = mid} f g 
     (subst (λ (c : Option ℕ). HasRoomFor c (written mid.writer) (bytes_under old.settings g)) (sym a.same_capacity)
     (room_behind (capacity old.writer) (written old.writer) (written mid.writer) (bytes_under old.settings f) (bytes_under old.settings g) a.appended room))
 
+-- ---- a document whose floats stay as they are
+
+-- the bytes of a document, by the settings that its serializer began with
+bytes_as_set : {s : Settings} (d : Doc) (p l : Bool) → s ≡ record { packed = p; legacy = l; shortest = false } → bytes_under s (item d) ≡ document_bytes d p l
+unfolding part_bytes
+bytes_as_set d p l begun = ap (λ (s : Settings). bytes_under s (item d)) begun ∙ ap (λ (d : Doc). document_bytes d p l) (wide d)
+
+stands_as_set : {s : Settings} (d : Doc) (p l : Bool) (front : List ℕ) → s ≡ record { packed = p; legacy = l; shortest = false } → StandsBefore d p l front → StandsBeforeIn (narrowed_part s.shortest (item d)) s.packed s.legacy front
+stands_as_set d p l front begun stands =
+    subst (λ (s : Settings). StandsBeforeIn (narrowed_part s.shortest (item d)) s.packed s.legacy front) (sym begun)
+    (subst (λ (d : Doc). StandsBefore d p l front) (sym (wide d)) stands)
+
+-- a value's
+canonical_as_set : (s : Settings) (v : Val) → narrowed s.shortest (document_of v) ≡ document_of v → bytes_under s (item (document_of v)) ≡ canon v
+unfolding part_bytes
+canonical_as_set s v same = ap (λ (d : Doc). document_bytes d s.packed s.legacy) same ∙ document_is_canonical v s.packed s.legacy
+
 -- ---- a document in a vector that was empty
 
-pub vector_holds : {A : Type 0} {old new : Serializer (Vec ℕ A)} (d : Doc) (p l : Bool) → old.writer.items ≡ [] → old.settings ≡ record { packed = p; legacy = l }
+pub vector_holds : {A : Type 0} {old new : Serializer (Vec ℕ A)} (d : Doc) (p l : Bool) → old.writer.items ≡ [] → old.settings ≡ record { packed = p; legacy = l; shortest = false }
     → Added (λ v. Some v.items) (λ _. []) (λ _. None) old (item d) new → new.writer.items ≡ document_bytes d p l
 unfolding part_bytes
 vector_holds {old = old} {new = new} d p l empty begun h =
-    h.appended ∙ ap (λ xs. xs ++ document_bytes d old.settings.packed old.settings.legacy) empty
-    ∙ ap (λ (s : Settings). document_bytes d s.packed s.legacy) begun
+    h.appended ∙ ap (λ xs. xs ++ bytes_under old.settings (item d)) empty ∙ bytes_as_set d p l begun
 
 -- ---- what the calls leave
 
@@ -117,7 +136,7 @@ module _ {W : Type 0} {written : W → Option (List ℕ)} {refuses : W → Error
     ok = tt;
     err = record {
       appended = subst (λ bs. AppendsBeginning bs (written old.writer) (written new.writer)) (sym spells.same) w.err;
-      before = λ front h. absurd (part_stored part old.settings.packed old.settings.legacy front spells.storable h);
+      before = λ front h. absurd (part_stored (narrowed_part old.settings.shortest part) old.settings.packed old.settings.legacy front (part_storable old.settings.shortest part spells.storable) h);
       settings = kept;
       same_references = same_references;
       same_capacity = same_capacity;
@@ -129,10 +148,10 @@ module _ {W : Type 0} {written : W → Option (List ℕ)} {refuses : W → Error
   stopped_within : {old mid new : Serializer W} {f g : Part} {e : Error} → Added written references capacity old f mid → Stopped written refuses references capacity mid g new e → StopsBefore old.settings (both f g) (written old.writer) (written new.writer)
   unfolding part_bytes
   stopped_within {old = old} {mid = mid} {new = new} {f = f} {g = g} a b front h = elim h [
-    | inl x ↦ absurd (part_stored f old.settings.packed old.settings.legacy front a.storable x)
+    | inl x ↦ absurd (part_stored (narrowed_part old.settings.shortest f) old.settings.packed old.settings.legacy front (part_storable old.settings.shortest f a.storable) x)
     | inr y ↦ subst (λ bs. AppendsBeginning bs (written old.writer) (written new.writer)) (sym y.1.1)
         (began_then (written old.writer) (written mid.writer) (written new.writer) (bytes_under old.settings f) y.1.0 a.appended
-        (b.before y.1.0 (subst (λ (s : Settings). StandsBeforeIn g s.packed s.legacy y.1.0) (sym a.settings) y.1.2)))
+        (b.before y.1.0 (subst (λ (s : Settings). StandsBeforeIn (narrowed_part s.shortest g) s.packed s.legacy y.1.0) (sym a.settings) y.1.2)))
   ]
 
   stopped_earlier : {old new : Serializer W} {f : Part} (g : Part) {e : Error} → Stopped written refuses references capacity old f new e → StopsBefore old.settings (both f g) (written old.writer) (written new.writer)
@@ -229,13 +248,13 @@ module _ {W : Type 0} {written : W → Option (List ℕ)} {refuses : W → Error
   }
 
   -- a value's canonical spelling was written, which is that of its document
-  pub serialized_value : {T : Type 0} {old new : Serializer W} (v : Val) (r : Result T Error) → new.settings ≡ old.settings → references new.writer ≡ references old.writer → capacity new.writer ≡ capacity old.writer → OnOk r (IsStorable v) → OnOk r (IsInMemory v)
+  pub serialized_value : {T : Type 0} {old new : Serializer W} (v : Val) (r : Result T Error) → narrowed old.settings.shortest (document_of v) ≡ document_of v → new.settings ≡ old.settings → references new.writer ≡ references old.writer → capacity new.writer ≡ capacity old.writer → OnOk r (IsStorable v) → OnOk r (IsInMemory v)
       → Wrote (written old.writer) (canon v) (written new.writer) r → IfErr r (λ e. refuses new.writer e ⊎ IsUnstorable v e)
       → (IsStorable v → TakesWhatFits (capacity old.writer) (written old.writer) (canon v) r) → EndsBefore (document_of v) (written old.writer) (written new.writer) → Serialized written refuses references capacity old (item (document_of v)) new r
   unfolding part_bytes
-  serialized_value {old = old} {new = new} v (Ok x) kept same_references same_capacity storable in_range w refused fits before = record {
+  serialized_value {old = old} {new = new} v (Ok x) unchanged kept same_references same_capacity storable in_range w refused fits before = record {
     ok = record {
-      appended = subst (λ bs. Appends (written old.writer) (written new.writer) bs) (sym (document_is_canonical v old.settings.packed old.settings.legacy)) w.ok;
+      appended = subst (λ bs. Appends (written old.writer) (written new.writer) bs) (sym (canonical_as_set old.settings v unchanged)) w.ok;
       settings = kept;
       same_references = same_references;
       same_capacity = same_capacity;
@@ -244,17 +263,17 @@ module _ {W : Type 0} {written : W → Option (List ℕ)} {refuses : W → Error
     };
     err = tt;
   }
-  serialized_value {T = T} {old = old} {new = new} v (Err e) kept same_references same_capacity storable in_range w refused fits before = record {
+  serialized_value {T = T} {old = old} {new = new} v (Err e) unchanged kept same_references same_capacity storable in_range w refused fits before = record {
     ok = tt;
     err = record {
-      appended = subst (λ bs. AppendsBeginning bs (written old.writer) (written new.writer)) (sym (document_is_canonical v old.settings.packed old.settings.legacy)) w.err;
-      before = before old.settings.packed old.settings.legacy;
+      appended = subst (λ bs. AppendsBeginning bs (written old.writer) (written new.writer)) (sym (canonical_as_set old.settings v unchanged)) w.err;
+      before = λ front h. before old.settings.packed old.settings.legacy front (subst (λ (d : Doc). StandsBefore d old.settings.packed old.settings.legacy front) unchanged h);
       settings = kept;
       same_references = same_references;
       same_capacity = same_capacity;
       refused = elim refused [ inl r ↦ inl r | inr u ↦ inr ((λ h. u.0 (storable_value v h)), u.1) ];
       no_room = λ storable room. refused_room {T = T} (Err e) refl (fits (storable_value v storable))
-          (subst (λ bs. HasRoomFor (capacity old.writer) (written old.writer) bs) (document_is_canonical v old.settings.packed old.settings.legacy) room);
+          (subst (λ bs. HasRoomFor (capacity old.writer) (written old.writer) bs) (canonical_as_set old.settings v unchanged) room);
     };
   }
 
@@ -271,33 +290,33 @@ module _ {W : Type 0} {written : W → Option (List ℕ)} {refuses : W → Error
 
   -- ---- a document, by the settings that its serializer began with
 
-  pub document_wrote : {T : Type 0} {old new : Serializer W} {d : Doc} {r : Result T Error} (p l : Bool) → old.settings ≡ record { packed = p; legacy = l }
+  pub document_wrote : {T : Type 0} {old new : Serializer W} {d : Doc} {r : Result T Error} (p l : Bool) → old.settings ≡ record { packed = p; legacy = l; shortest = false }
       → Serialized written refuses references capacity old (item d) new r → Wrote (written old.writer) (document_bytes d p l) (written new.writer) r
   unfolding part_bytes
   document_wrote {old = old} {new = new} {d = d} {r = Ok x} p l begun h = record {
-    ok = subst (λ (s : Settings). Appends (written old.writer) (written new.writer) (document_bytes d s.packed s.legacy)) begun h.ok.appended;
+    ok = subst (λ bs. Appends (written old.writer) (written new.writer) bs) (bytes_as_set d p l begun) h.ok.appended;
     err = tt;
   }
   document_wrote {old = old} {new = new} {d = d} {r = Err e} p l begun h = record {
     ok = tt;
-    err = subst (λ (s : Settings). AppendsBeginning (document_bytes d s.packed s.legacy) (written old.writer) (written new.writer)) begun h.err.appended;
+    err = subst (λ bs. AppendsBeginning bs (written old.writer) (written new.writer)) (bytes_as_set d p l begun) h.err.appended;
   }
 
-  pub document_before : {T : Type 0} {old new : Serializer W} {d : Doc} {r : Result T Error} (p l : Bool) → old.settings ≡ record { packed = p; legacy = l }
+  pub document_before : {T : Type 0} {old new : Serializer W} {d : Doc} {r : Result T Error} (p l : Bool) → old.settings ≡ record { packed = p; legacy = l; shortest = false }
       → Serialized written refuses references capacity old (item d) new r → (front : List ℕ) → StandsBefore d p l front → AppendsBeginning front (written old.writer) (written new.writer)
   document_before {d = d} {r = Ok x} p l begun h front stands = absurd (all_stored d p l front h.ok.storable stands)
-  document_before {old = old} {d = d} {r = Err e} p l begun h front stands = h.err.before front (subst (λ (s : Settings). StandsBefore d s.packed s.legacy front) (sym begun) stands)
+  document_before {old = old} {d = d} {r = Err e} p l begun h front stands = h.err.before front (stands_as_set d p l front begun stands)
 
   pub document_refused : {T : Type 0} {old new : Serializer W} {d : Doc} {r : Result T Error} → Serialized written refuses references capacity old (item d) new r → IfErr r (DocumentRefused refuses new.writer d)
   document_refused {r = Ok x} h = tt
   document_refused {r = Err e} h = h.err.refused
 
-  pub document_fits : {T : Type 0} {old new : Serializer W} {d : Doc} {r : Result T Error} (p l : Bool) → old.settings ≡ record { packed = p; legacy = l }
+  pub document_fits : {T : Type 0} {old new : Serializer W} {d : Doc} {r : Result T Error} (p l : Bool) → old.settings ≡ record { packed = p; legacy = l; shortest = false }
       → Serialized written refuses references capacity old (item d) new r → IsStorableDocument d → TakesWhatFits (capacity old.writer) (written old.writer) (document_bytes d p l) r
   unfolding part_bytes
   document_fits {r = Ok x} p l begun h storable = record { taken = λ room. refl }
   document_fits {old = old} {d = d} {r = Err e} p l begun h storable = record {
-    taken = λ room. absurd (h.err.no_room storable (subst (λ (s : Settings). HasRoomFor (capacity old.writer) (written old.writer) (document_bytes d s.packed s.legacy)) (sym begun) room));
+    taken = λ room. absurd (h.err.no_room storable (subst (λ bs. HasRoomFor (capacity old.writer) (written old.writer) bs) (sym (bytes_as_set d p l begun)) room));
   }
 
 -- ---- a document that is a value's, written to a sink

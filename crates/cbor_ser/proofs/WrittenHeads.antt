@@ -5,6 +5,7 @@ use Rattle.cbor_model.specs.InMemory.{IsTextString}
 use Rattle.cbor_model.specs.Spelling.{spell}
 use Rattle.cbor_model.specs.Document.{Doc, unit_variant, raw_of, document_bytes, identifier, IsStorableDocument}
 use Rattle.cbor_ser.specs.Documents.{key_document}
+use Rattle.cbor_ser.specs.Narrowed.{narrowed}
 use Rattle.cbor_model.specs.Parts.{Part, item, both, array_head, map_head, newtype_head, tuple_head, struct_head, field_part, part_bytes, newtype_start, tuple_start, struct_start}
 use Rattle.cbor_ser.specs.declared.serializer.Settings.{Settings}
 use Rattle.cbor_ser.proofs.WriteSteps.{Same}
@@ -17,10 +18,10 @@ legacy_head len i n = both (array_head (Some len)) (item (unit_variant i n))
 abbrev key_head : Bool → ℕ → List ℕ → Part
 key_head by_number i n = both (map_head (Some 1)) (item (key_document by_number i n))
 
-key_bytes : (packed legacy : Bool) (i : ℕ) (n : List ℕ) → document_bytes (key_document packed i n) packed legacy ≡ spell (identifier packed i n)
+key_bytes : (packed legacy b : Bool) (i : ℕ) (n : List ℕ) → document_bytes (narrowed b (key_document packed i n)) packed legacy ≡ spell (identifier packed i n)
 unfolding document_bytes raw_of
-key_bytes false legacy i n = refl
-key_bytes true legacy i n = refl
+key_bytes false legacy b i n = refl
+key_bytes true legacy b i n = refl
 
 key_storable : (packed : Bool) (i : ℕ) (n : List ℕ) → i < 2 ^ 64 → IsStorableDocument (key_document packed i n)
 key_storable false i n fits = tt
@@ -30,7 +31,7 @@ key_storable true i n fits = fits
 pub key_same : (s : Settings) (i : ℕ) (n : List ℕ) → i < 2 ^ 64 → IsTextString n → Same s (item (key_document s.packed i n)) (item (unit_variant i n))
 unfolding part_bytes document_bytes raw_of
 key_same s i n fits fits' = record {
-  same = key_bytes s.packed s.legacy i n;
+  same = key_bytes s.packed s.legacy s.shortest i n;
   storable = λ h. tt;
   unstorable = λ h. key_storable s.packed i n fits;
   in_range = λ h. (fits, fits');
@@ -91,7 +92,7 @@ struct_legacy s i n is = record {
 pub struct_identified : (s : Settings) (i : ℕ) (n : List ℕ) → s.legacy ≡ false → i < 2 ^ 64 → IsTextString n → Same s (key_head s.packed i n) (struct_head i n)
 unfolding part_bytes
 struct_identified s i n is fits fits' = record {
-  same = ap (λ xs. short 5 1 ++ xs) (key_bytes s.packed s.legacy i n) ∙ ap (struct_start i n s.packed) (sym is);
+  same = ap (λ xs. short 5 1 ++ xs) (key_bytes s.packed s.legacy s.shortest i n) ∙ ap (struct_start i n s.packed) (sym is);
   storable = λ h. tt;
   unstorable = λ h. (tt, key_storable s.packed i n fits);
   in_range = λ h. (fits, fits');

@@ -1,4 +1,5 @@
 pub mod Written
+pub mod Narrowed
 pub mod Bytes
 pub mod Serialized
 pub mod Collections

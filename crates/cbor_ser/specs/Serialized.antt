@@ -12,6 +12,7 @@ use Rattle.cbor_model.specs.Unstored.{StandsBefore, StandsBeforeIn}
 use Rattle.cbor_io.specs.declared.error.Error.{Error}
 use Rattle.cbor_io.specs.Write.{AppendsBeginning, Wrote, HasRoomFor}
 use Rattle.cbor_ser.specs.Written.{IsUnstorable, SaysUnstorable}
+use Rattle.cbor_ser.specs.Narrowed.{narrowed_part}
 use Rattle.cbor_ser.specs.declared.serializer.Settings.{Settings}
 use Rattle.cbor_ser.specs.declared.serializer.Serializer.{Serializer}
 
@@ -23,12 +24,13 @@ settings_of s = s.settings
 
 -- the bytes of a part under these settings
 abbrev pub bytes_under : Settings → Part → List ℕ
-bytes_under s part = part_bytes part s.packed s.legacy
+bytes_under s part = part_bytes (narrowed_part s.shortest part) s.packed s.legacy
 
 -- What was appended ends before the first number of the part that isn't stored, under these settings.
 abbrev pub StopsBefore : Settings → Part → Option (List ℕ) → Option (List ℕ) → Type 0
 StopsBefore s part old new =
-    (front : List ℕ) → StandsBeforeIn part s.packed s.legacy front → AppendsBeginning front old new
+    (front : List ℕ) → StandsBeforeIn (narrowed_part s.shortest part) s.packed s.legacy front
+    → AppendsBeginning front old new
 
 -- What was appended ends before the first number of the document that isn't stored, whatever the
 -- settings.

@@ -9,10 +9,12 @@ ghost use Rattle.cbor_model.specs.Document.{document_of, float};
 ghost use Rattle.cbor_model.specs.Raw.{single, double};
 ghost use Rattle.cbor_model.specs.Parts.{Part, item, tag_head};
 ghost use Rattle.cbor_model.specs.Canonical.{IsStorableInteger, canonical_integer};
+ghost use Rattle.cbor_model.specs.InMemory.{IsInMemory};
 ghost use Rattle.cbor_model.specs.Spelling.{spell};
 ghost use Rattle.cbor_io.specs.Head.{major_number};
 ghost use Rattle.cbor_value.specs.View.{view, float_view};
 ghost use Rattle.cbor_ser.specs.Serialized.{writer_of, settings_of, Serialized, Spells};
+ghost use Rattle.cbor_ser.specs.Narrowed.{narrowed};
 ghost use Rattle.cbor_ser.specs.Written.{SaysUnstorable};
 
 use crate::items::{
@@ -27,12 +29,14 @@ use std::fmt;
 
 mod compound;
 mod list;
+mod value;
 
-/// How names and enums are written.
+/// How names, enums and floats are written.
 #[derive(Clone, Copy)]
 pub(crate) struct Settings {
     pub(crate) packed: bool,
     pub(crate) legacy: bool,
+    pub(crate) shortest: bool,
 }
 
 /// Writes items to a sink, one after the other.
@@ -68,11 +72,26 @@ fn integer_head(v: i64) -> (Major, u64)
     }
 }
 
+// The float that is written for this one.
+#[inline(always)]
+fn as_set(shortest: bool, v: Float) -> Float
+    ensures written { document_of (float_view result)
+        ≡ narrowed shortest (document_of (float_view v)) }
+    ensures in_memory { IsInMemory (float_view v) }
+{
+    if shortest {
+        v.shortened()
+    } else {
+        v
+    }
+}
+
 impl<W: Write> Serializer<W> {
-    /// Writes to this sink: fields and variants by their names, and enums in the map form.
+    /// Writes to this sink: fields and variants by their names, enums in the map form, and floats in
+    /// their widths.
     pub fn new(alloc: Global, writer: W) -> Serializer<W>
         ensures writer { writer_of result ≡ writer }
-        ensures settings { settings_of result ≡ record { packed = false; legacy = false } }
+        ensures settings { settings_of result ≡ record { packed = false; legacy = false; shortest = false } }
     {
         Serializer {
             alloc,
@@ -80,6 +99,7 @@ impl<W: Write> Serializer<W> {
             settings: Settings {
                 packed: false,
                 legacy: false,
+                shortest: false,
             },
         }
     }
@@ -102,6 +122,7 @@ impl<W: Write> Serializer<W> {
             settings: Settings {
                 packed: true,
                 legacy: self.settings.legacy,
+                shortest: self.settings.shortest,
             },
             writer: self.writer,
         }
@@ -124,6 +145,34 @@ impl<W: Write> Serializer<W> {
             settings: Settings {
                 packed: self.settings.packed,
                 legacy: true,
+                shortest: self.settings.shortest,
+            },
+            writer: self.writer,
+        }
+    }
+
+    /// Each float is written in the narrowest width that holds its number exactly (RFC 8949,
+    /// section 4.2.1), and each NaN as `f97e00`: those within a [`Value`] and in keys too.
+    ///
+    /// A map's keys stay in the order of the value. So the encoding of a `Value` whose keys hold
+    /// floats may not be canonical then, and may list a key twice, where two floats are one number;
+    /// `to_vec_deterministic` of `serde_cbor` sorts them anew and refuses such keys.
+    ///
+    /// ```rust
+    /// let mut ser = Serializer::new(alloc, Vec::new(alloc)).shortest_floats();
+    /// ser.serialize_f64(1.5)?;
+    /// assert_eq!(rt; ser.into_inner().as_slice(), b"\xf9\x3e\0".as_slice());
+    /// ```
+    pub fn shortest_floats(self) -> Serializer<W>
+        ensures writer { writer_of result ≡ writer_of self }
+        ensures settings { settings_of result ≡ record (settings_of self) { shortest = true } }
+    {
+        Serializer {
+            alloc: self.alloc,
+            settings: Settings {
+                packed: self.settings.packed,
+                legacy: self.settings.legacy,
+                shortest: true,
             },
             writer: self.writer,
         }
@@ -304,17 +353,19 @@ impl<W: Write> Serializer<W> {
         }
     }
 
-    /// Appends a float in its width, with its bits as they are.
+    /// Appends a float in its width, with its bits as they are, unless the setting is
+    /// [`shortest_floats`](Serializer::shortest_floats).
     pub fn serialize_float(&mut self, v: Float) -> Result<()>
         ensures { Serialized W.written W.refuses W.references W.capacity self.old
             (item (document_of (float_view v))) self.new result }
     {
+        let float = as_set(self.settings.shortest, v);
         let mut refusal = None;
-        let done = put_float(&mut self.writer, &mut refusal, v);
+        let done = put_float(&mut self.writer, &mut refusal, float);
         answer(done, refusal)
     }
 
-    /// Appends a float of 32 bits. A NaN is the quiet NaN `fa7fc00000`.
+    /// Appends a float of 32 bits, as by `serialize_float`. A NaN is the quiet NaN `fa7fc00000`.
     pub fn serialize_f32(&mut self, v: f32) -> Result<()>
         ensures { Serialized W.written W.refuses W.references W.capacity self.old
             (item (float single (to_bits binary32 v))) self.new result }
@@ -322,8 +373,8 @@ impl<W: Write> Serializer<W> {
         self.serialize_float(Float::from(v))
     }
 
-    /// Appends a float of 64 bits, also where fewer would hold the number. A NaN is the quiet NaN
-    /// `fb7ff8000000000000`.
+    /// Appends a float of 64 bits, also where fewer would hold the number, as by `serialize_float`. A
+    /// NaN is the quiet NaN `fb7ff8000000000000`.
     ///
     /// ```rust
     /// let mut ser = Serializer::new(alloc, Vec::new(alloc));
@@ -369,11 +420,14 @@ impl<W: Write> Serializer<W> {
         self.write_string(Major::ByteString, v)
     }
 
-    // Appends a value's canonical encoding.
+    // Appends a value's canonical encoding, but its floats as they are set to be.
     pub(crate) fn write_value(&mut self, v: &Value) -> Result<()>
         ensures { Serialized W.written W.refuses W.references W.capacity self.old
             (item (document_of (view v.now))) self.new result }
     {
+        if self.settings.shortest {
+            return self.write_by_items(v);
+        }
         let mut refusal = None;
         let done = put_value(self.alloc, &mut self.writer, &mut refusal, v);
         answer(done, refusal)
@@ -414,6 +468,7 @@ impl<W> fmt::Debug for Serializer<W> {
         f.debug_struct("Serializer")
             .field("packed", &self.settings.packed)
             .field("legacy", &self.settings.legacy)
+            .field("shortest", &self.settings.shortest)
             .finish_non_exhaustive()
     }
 }

@@ -1,5 +1,5 @@
 use Rattle.cbor_ser.proofs.WriteSteps.{float_storable}
-use Rattle.std.proofs.Common.{refl}
+use Rattle.std.proofs.Common.{refl, sym, ap, ◌∙◌}
 use Rattle.cbor_ser.proofs.Beginnings.{reported, reported_refused, reported_fits}
 use Rattle.cbor_ser.proofs.WriteSteps.{serialized}
 use Rattle.cbor_value.specs.View.{float_view}
@@ -15,8 +15,9 @@ returns g c =
     let done = c.put_float-done in
     let s = c.args.self.now.settings in
     let v = float_view c.args.v in
+    let float = c.as_set-float in
     serialized (item (document.document_of v)) c.answer.result
-    (record { same = document_is_canonical v s.packed s.legacy; storable = storable_document v (float_storable c.args.v); in_range = document_in_range v done.ensures.in_memory }) refl done.ensures.same_references done.ensures.same_capacity
+    (record { same = ap (λ (d : document.Doc). document_bytes d s.packed s.legacy) (sym float.ensures.written) ∙ document_is_canonical (float_view float.result) s.packed s.legacy; storable = storable_document v (float_storable c.args.v); in_range = document_in_range v float.ensures.in_memory }) refl done.ensures.same_references done.ensures.same_capacity
     (reported _ done.result _ c.answer.result c.answer.ensures.ok c.answer.ensures.err done.ensures.refused done.ensures.written)
     (reported_refused _ done.result _ c.answer.result c.answer.ensures.ok c.answer.ensures.err done.ensures.refused)
     (reported_fits done.result c.answer.result c.answer.ensures.ok done.ensures.fits)

@@ -15,7 +15,7 @@ returns-clause-written g c =
     let refused = reported_refused _ done.result _ c.answer.result c.answer.ensures.ok c.answer.ensures.err done.ensures.refused in
     let stored = reported_ok _ _ done.result _ c.answer.result c.answer.ensures.err done.ensures.refused done.ensures.storable in
     let wrote = reported _ done.result _ c.answer.result c.answer.ensures.ok c.answer.ensures.err done.ensures.refused done.ensures.written in
-    serialized_value (plain.integer c.args.v) c.answer.result refl done.ensures.same_references done.ensures.same_capacity (simp to_z-of_z at stored) (always c.answer.result) (simp to_z-of_z at wrote) (simp to_z-of_z at refused)
+    serialized_value (plain.integer c.args.v) c.answer.result refl refl done.ensures.same_references done.ensures.same_capacity (simp to_z-of_z at stored) (always c.answer.result) (simp to_z-of_z at wrote) (simp to_z-of_z at refused)
     (λ storable. reported_fits done.result c.answer.result c.answer.ensures.ok (simp to_z-of_z at (done.ensures.fits (simp to_z-of_z storable))))
     (integer_before g.W.Write.written c.args.v _ _ (λ not. done.ensures.kept (simp to_z-of_z not)))
 
