@@ -8,7 +8,7 @@ use cbor_io::write::Write;
 ///
 /// `Vec<u8>` is an array of numbers, as any `Vec`; a byte string is `ByteBuf`, `ByteArray`, or the
 /// borrowed `&[u8]` and `Bytes`. An `f64` is written in 64 bits and an `f32` in 32, also where
-/// fewer hold the number.
+/// fewer hold the number, unless [`shortest_floats`](Serializer::shortest_floats) is set.
 ///
 /// An implementation says the document, as a function of the value, and writes it by the calls of
 /// [`Serializer`]. A struct, an enum, and a struct that holds both:

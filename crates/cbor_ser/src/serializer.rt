@@ -79,11 +79,7 @@ fn as_set(shortest: bool, v: Float) -> Float
         ≡ narrowed shortest (document_of (float_view v)) }
     ensures in_memory { IsInMemory (float_view v) }
 {
-    if shortest {
-        v.shortened()
-    } else {
-        v
-    }
+    if shortest { v.shortened() } else { v }
 }
 
 impl<W: Write> Serializer<W> {
@@ -113,19 +109,12 @@ impl<W: Write> Serializer<W> {
     /// ser.serialize_unit_variant("Side", 1, "Right")?;
     /// assert_eq!(rt; ser.into_inner().as_slice(), b"\x01".as_slice());
     /// ```
-    pub fn packed_format(self) -> Serializer<W>
+    pub fn packed_format(mut self) -> Serializer<W>
         ensures writer { writer_of result ≡ writer_of self }
         ensures settings { settings_of result ≡ record (settings_of self) { packed = true } }
     {
-        Serializer {
-            alloc: self.alloc,
-            settings: Settings {
-                packed: true,
-                legacy: self.settings.legacy,
-                shortest: self.settings.shortest,
-            },
-            writer: self.writer,
-        }
+        self.settings.packed = true;
+        self
     }
 
     /// Variants that hold something are written as arrays of their name (or number) and their
@@ -136,19 +125,12 @@ impl<W: Write> Serializer<W> {
     /// ser.serialize_newtype_variant("Shape", 0, "Dot", &7u8)?;
     /// assert_eq!(rt; ser.into_inner().as_slice(), b"\x82\x63Dot\x07".as_slice());
     /// ```
-    pub fn legacy_enums(self) -> Serializer<W>
+    pub fn legacy_enums(mut self) -> Serializer<W>
         ensures writer { writer_of result ≡ writer_of self }
         ensures settings { settings_of result ≡ record (settings_of self) { legacy = true } }
     {
-        Serializer {
-            alloc: self.alloc,
-            settings: Settings {
-                packed: self.settings.packed,
-                legacy: true,
-                shortest: self.settings.shortest,
-            },
-            writer: self.writer,
-        }
+        self.settings.legacy = true;
+        self
     }
 
     /// Each float is written in the narrowest width that holds its number exactly (RFC 8949,
@@ -163,19 +145,12 @@ impl<W: Write> Serializer<W> {
     /// ser.serialize_f64(1.5)?;
     /// assert_eq!(rt; ser.into_inner().as_slice(), b"\xf9\x3e\0".as_slice());
     /// ```
-    pub fn shortest_floats(self) -> Serializer<W>
+    pub fn shortest_floats(mut self) -> Serializer<W>
         ensures writer { writer_of result ≡ writer_of self }
         ensures settings { settings_of result ≡ record (settings_of self) { shortest = true } }
     {
-        Serializer {
-            alloc: self.alloc,
-            settings: Settings {
-                packed: self.settings.packed,
-                legacy: self.settings.legacy,
-                shortest: true,
-            },
-            writer: self.writer,
-        }
+        self.settings.shortest = true;
+        self
     }
 
     /// The sink.
