@@ -6,6 +6,8 @@ mod beginnings;
 #[cfg(test)]
 mod checks;
 #[cfg(test)]
+mod floats;
+#[cfg(test)]
 mod once;
 #[cfg(test)]
 mod serializer;

@@ -174,6 +174,6 @@ fn prints_no_bytes(rt: HostRuntime) -> Done {
     let mut ser = Serializer::new(alloc, Vec::new(alloc)).packed_format();
     ser.serialize_u64(9)?;
     let text = format!(in alloc; "{ser:?}")?;
-    assert!(rt; text.as_str() == "Serializer { packed: true, legacy: false, .. }");
+    assert!(rt; text.as_str() == "Serializer { packed: true, legacy: false, shortest: false, .. }");
     Ok(())
 }
