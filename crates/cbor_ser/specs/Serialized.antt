@@ -32,8 +32,8 @@ StopsBefore s part old new =
     (front : List ℕ) → StandsBeforeIn (narrowed_part s.shortest part) s.packed s.legacy front
     → AppendsBeginning front old new
 
--- What was appended ends before the first number of the document that isn't stored, whatever the
--- settings.
+-- What was appended ends before the first number of the document that isn't stored, whatever
+-- `packed` and `legacy`.
 abbrev pub EndsBefore : Doc → Option (List ℕ) → Option (List ℕ) → Type 0
 EndsBefore d old new = (packed legacy : Bool) (front : List ℕ)
     → StandsBefore d packed legacy front → AppendsBeginning front old new
