@@ -87,6 +87,7 @@ pub use Rattle.cbor_de.specs.Absent
 pub use Rattle.cbor_de.specs.ByteStrings
 pub use Rattle.cbor_ser.specs.Written
 pub use Rattle.cbor_ser.specs.Bytes
+pub use Rattle.cbor_ser.specs.Narrowed
 pub use Rattle.cbor_ser.specs.Serialized
 pub use Rattle.cbor_ser.specs.Collections
 pub use Rattle.cbor_ser.specs.Documents
