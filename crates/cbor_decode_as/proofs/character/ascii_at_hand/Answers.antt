@@ -12,6 +12,6 @@ returns-clause-read g c =
     let shown = c.ahead-ahead.result.now in
     let b = slice_index shown 1 in
     let front : take 2 (g.R.Source.at_hand old.source) ≡ 0x61 ∷ b ∷ [] =
-        subst (λ (x : List ℕ). take 2 x ≡ 0x61 ∷ b ∷ []) c.ahead-ahead.ensures.bytes (front_two shown 0x61 b c.if-ahead-lt2.false c.if-ahead-ne-ONE_BYTE.false refl) in
+    subst (λ (x : List ℕ). take 2 x ≡ 0x61 ∷ b ∷ []) c.ahead-ahead.ensures.bytes (front_two shown 0x61 b c.if-ahead-lt2.false c.if-ahead-ne-ONE_BYTE.false refl) in
     ascii_taken g.R.Source.refusals (formats_of old.formats) old.levels old.refusal s t b c.if-byte-ge128.false
     (subst (TookKept s t) front c.advance.ensures.took) c.advance.ensures.counted
