@@ -87,7 +87,8 @@ impl<W: Write> Serializer<W> {
     /// their widths.
     pub fn new(alloc: Global, writer: W) -> Serializer<W>
         ensures writer { writer_of result ≡ writer }
-        ensures settings { settings_of result ≡ record { packed = false; legacy = false; shortest = false } }
+        ensures settings { settings_of result
+            ≡ record { packed = false; legacy = false; shortest = false } }
     {
         Serializer {
             alloc,
@@ -143,7 +144,7 @@ impl<W: Write> Serializer<W> {
     /// ```rust
     /// let mut ser = Serializer::new(alloc, Vec::new(alloc)).shortest_floats();
     /// ser.serialize_f64(1.5)?;
-    /// assert_eq!(rt; ser.into_inner().as_slice(), b"\xf9\x3e\0".as_slice());
+    /// assert_eq!(rt; ser.into_inner().as_slice(), b"\xf9\x3e\x00".as_slice());
     /// ```
     pub fn shortest_floats(mut self) -> Serializer<W>
         ensures writer { writer_of result ≡ writer_of self }
