@@ -8,12 +8,11 @@ ghost use Rattle.cbor_value.specs.View.{view};
 ghost use Rattle.cbor_io.specs.Error.{IsOutOfMemory};
 ghost use Rattle.cbor_rules.specs.Rules.{canonical_key};
 
-use crate::heads::is_long;
-use crate::walk::number;
-use cbor_de::from_slice;
+use cbor_de::{IgnoredAny, from_slice};
 use cbor_io::error::Result;
 use cbor_model::reader_finds;
 use cbor_ser::to_vec;
+use cbor_strict::from_slice_canonical_as;
 use cbor_value::Value;
 use std::alloc::Global;
 use std::borrow::CowSlice;
@@ -22,15 +21,14 @@ use std::borrow::CowSlice;
 /// that encode no value stand for themselves. Two keys are of one value exactly where these are
 /// equal.
 ///
-/// It takes memory, for the value and for its encoding, where the key isn't encoded canonically or
-/// is neither an integer nor a string.
+/// It takes memory, for the value and for its encoding, where the key isn't encoded canonically.
 pub(crate) fn canonical_key(alloc: Global, key: &[u8]) -> Result<CowSlice<'_, u8>>
     ensures bytes { IfOk result (λ bytes. cow_slice_items bytes ≡ canonical_key key.now) }
     ensures memory { IfErr result IsOutOfMemory }
 {
     reader_finds();
     are_bytes(key);
-    if is_short(key) {
+    if is_canonical(alloc, key) {
         return Ok(CowSlice::Borrowed(key));
     }
     match from_slice::<Value>(alloc, key) {
@@ -51,20 +49,12 @@ fn encoding<'a>(alloc: Global, value: &Value) -> Result<CowSlice<'a, u8>>
     }
 }
 
-/// Whether the key begins with the shortest head of an integer or of a string of definite length.
-fn is_short(key: &[u8]) -> bool
+/// Whether the key is encoded canonically. It takes no memory, but for one that isn't.
+fn is_canonical(alloc: Global, key: &[u8]) -> bool
     ensures { IsTrue result → canonical_key key.now ≡ key.now }
 {
-    reader_finds();
     are_bytes(key);
-    let Some((first, rest)) = key.split_first() else {
-        return false;
-    };
-    let low = *first % 32;
-    match number(low, rest) {
-        Some((n, _left)) => *first / 32 <= 3 && !is_long(low, n),
-        None => false,
-    }
+    from_slice_canonical_as::<IgnoredAny>(alloc, key).is_ok()
 }
 
 // Tells a proof that what a slice holds is below 256, and fewer than 2^64.

@@ -37,7 +37,7 @@ pub(crate) fn broken_by_number(
 
 /// Whether a number after such a first byte fits a narrower width.
 #[inline(always)]
-pub(crate) fn is_long(low: u8, n: u64) -> bool
+fn is_long(low: u8, n: u64) -> bool
     requires { low < 28 }
     ensures { result ≡ nat_lt n (floor (width_of low)) }
 {

@@ -352,7 +352,7 @@ fn float(rules: Rules, float: Float, left: usize) -> Walk
 /// The number after a first byte with these lower five bits, and how many bytes are after it.
 #[tactic(auto, using(crate::proofs::Walking::last_all), unfolding(cbor_model::specs::Reader::number_behind))]
 #[inline(always)]
-pub(crate) fn number(low: u8, bytes: &[u8]) -> Option<(u64, usize)>
+fn number(low: u8, bytes: &[u8]) -> Option<(u64, usize)>
     ensures { MatchOption result (StopsNumber low bytes.now) (IsNumber low bytes.now) }
 {
     match low {
