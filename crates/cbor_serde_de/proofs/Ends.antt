@@ -8,7 +8,7 @@ use Rattle.cbor_read.specs.Source.{Input}
 use Rattle.cbor_read.specs.Sources.{input_of_slice}
 use Rattle.cbor_read.specs.declared.slice_read.SliceRead.{SliceRead}
 use Rattle.cbor_serde_de.specs.Given.{Closes}
-use Rattle.cbor_serde_de.specs.Places.{input_of}
+use Rattle.cbor_serde_de.specs.Places.{SameReading, input_of}
 use Rattle.cbor_serde_de.specs.declared.cbor.Cbor.{Cbor}
 use Rattle.cbor_decode.specs.Cursor.{behind_next, ended_at}
 use Rattle.cbor_decode.specs.Gives.{Step}
@@ -59,9 +59,10 @@ key_comes s t f r behind h =
 pub closes : (why : Refusal) (old new : Cbor) (mid : SliceRead)
     → Step (input_of old) (input_of_slice mid) (λ l bs rest. ended_at why (remaining_of old.innermost.remaining) bs ≡ Ok (tt, rest))
     → new.decoder.source ≡ mid → new.decoder.levels ≡ old.innermost.levels
-    → old.outer.items ≡ new.outer.items ++ new.innermost ∷ [] → Closes why old new
-closes why old new mid h same levels around = record {
+    → old.outer.items ≡ new.outer.items ++ new.innermost ∷ [] → SameReading old new → Closes why old new
+closes why old new mid h same levels around reading = record {
   taken = subst (λ s. Step (input_of old) (input_of_slice s) (λ l bs rest. ended_at why (remaining_of old.innermost.remaining) bs ≡ Ok (tt, rest))) (sym same) h;
   levels = levels;
   around = around;
+  same = reading;
 }

@@ -25,7 +25,7 @@ use Rattle.cbor_decode_as.proofs.facts.Refusals.{reported_by}
 use Rattle.cbor_serde_de.specs.Fronts.{HasItem, item_limits}
 
 -- what is read as a value is read as it is spelled
-seen_was : (read : Reads Raw) (v : Val) (rest : List ℕ) → along value read ≡ Ok (v, rest) → (r : Raw) × (read ≡ Ok (r, rest))
+pub seen_was : (read : Reads Raw) (v : Val) (rest : List ℕ) → along value read ≡ Ok (v, rest) → (r : Raw) × (read ≡ Ok (r, rest))
 seen_was (Ok x) v rest e = (x.0, ap (λ (p : Val × List ℕ). Ok (x.0, p.1)) (ok_is (value x.0, x.1) (v, rest) e))
 seen_was (Err f) v rest e = absurd cc
 

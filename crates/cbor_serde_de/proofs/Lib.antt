@@ -1,7 +1,11 @@
+pub mod Decoded
 pub mod Ends
 pub mod Fronts
 pub mod Items
+pub mod Named
+pub mod Numbered
 pub mod PlainNames
 pub mod Rewinds
 pub mod ShortTexts
+pub mod Steps
 pub mod Taking

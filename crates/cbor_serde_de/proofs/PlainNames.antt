@@ -1,6 +1,7 @@
 -- A name that is spelled as it is, and has no aliases.
 use Rattle.std.proofs.Common.{◌≡◌, ◌↔◌, ℕ, Bool, true, false, List, [], length, IsTrue, Any, inl, inr, Bor, refl, sym, ◌∙◌, ap, subst, arith}
 use Rattle.std.specs.Prelude.{◌<◌, ◌+◌, nat_eq, get_or, Option, Some, None, IfSome, MatchBool}
+use Rattle.std.specs.Str.{IsUtf8}
 use Rattle.std.specs.Cmp.Lexicographic.{pointwise, same_text, other_text}
 use Rattle.serde.specs.Names.{StandsFor, NoneBelow, Finds}
 use Rattle.serde.proofs.Finding.{first_or_past}
@@ -38,3 +39,8 @@ pub first_of : (o : Option Bool) (names : List Name) (key : List ℕ) (at : ℕ)
     → IfSome o (λ b. IsTrue b ↔ StandsFor key (get_or names at d)) → IfSome o (λ b. MatchBool b (Finds names key at) (NoneBelow names key (at + 1)))
 first_of None names key at d inside below fits = tt
 first_of (Some b) names key at d inside below fits = first_or_past b names key at d inside below fits
+
+-- such a name is UTF-8
+pub utf8_key : (x key : List ℕ) (b : Bool) → IsUtf8 x → b ≡ pointwise nat_eq x key → IsTrue b → IsUtf8 key
+utf8_key x key true utf8 e h = subst IsUtf8 (same_text x key e) utf8
+utf8_key x key false utf8 e h = absurd cc

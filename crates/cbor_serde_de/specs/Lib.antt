@@ -5,4 +5,5 @@ pub mod Readers
 pub mod Streams
 pub mod Keys
 pub mod Kinds
+pub mod Numbers
 pub mod Places

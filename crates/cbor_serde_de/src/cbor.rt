@@ -1,26 +1,27 @@
 //! What reads the items of a slice.
 
-ghost use Rattle.std.specs.Prelude.{◌≡◌, ◌≤◌, ⊤, length, string_bytes, IfOk, IfSome, OnOk, IsTrue};
+ghost use Rattle.std.specs.Prelude.{◌≡◌, ◌≤◌, length, string_bytes, IfOk, IfSome, OnOk};
 ghost use Rattle.std.specs.Prelude.{MatchBool, MatchOption};
 ghost use Rattle.cbor_read.specs.Sources.{input_of_slice};
-ghost use Rattle.cbor_model.specs.Readable.{IsUnit};
+ghost use Rattle.cbor_model.specs.Readable.{IsText, IsUnit};
 ghost use Rattle.cbor_model.specs.Refusal.{end_in_array, end_in_map};
-ghost use Rattle.cbor_serde_de.specs.Given.{Closes, ReadsAs, TakesKey};
-ghost use Rattle.cbor_serde_de.specs.AtHand.{BeginsText, CountsDown, TakesName, TakesText};
+ghost use Rattle.cbor_serde_de.specs.Given.{Closes, CountsItem, CountsPair, ReadsAs, TakesKey};
+ghost use Rattle.cbor_serde_de.specs.Given.{TakesName};
+ghost use Rattle.cbor_serde_de.specs.AtHand.{BeginsText, CountsDown};
 ghost use Rattle.cbor_serde_de.specs.Places.{EndsSlice, Enters, IsAt, Leaves, Returns};
 ghost use Rattle.cbor_serde_de.specs.Places.{Starts, mark_of};
 
-use crate::kind::{kind_at, kind_of};
-use crate::places::{place_of, place_of_bytes, place_of_integer, place_of_number, place_of_plain};
+use crate::kind::{kind_at, kind_within};
+use crate::places::{place_of_integer, place_of_part, place_of_plain, place_of_text};
 use cbor_decode::{Decoder, Remaining};
-use cbor_decode_as::borrowed::{EitherStr, read_bytes, read_text, unread_error};
+use cbor_decode_as::borrowed::{read_bytes, read_text, unread_error};
 use cbor_decode_as::collection::{more_items, more_pairs};
 use cbor_decode_as::head::tagged_head;
 use cbor_decode_as::integer::read_integer;
 use cbor_decode_as::scalar::read_unit;
 use cbor_io::error::{Error, ErrorCode, Result};
 use cbor_io::utf8::from_utf8;
-use cbor_read::{EitherLifetime, Offset, ReadErrorCode, SliceRead, Source};
+use cbor_read::{Offset, ReadErrorCode, SliceRead, Source};
 use cbor_serde_options::Options;
 use serde::{Kind, Name};
 use std::alloc::{AllocError, Global};
@@ -61,7 +62,6 @@ const NO_NAME: &str = "invalid type: expected an identifier";
 
 // The bytes of a text of up to 23 bytes, where it stands here.
 #[inline(always)]
-#[tactic(auto, using(crate::proofs::ShortTexts::begins))]
 fn short_text(ahead: &[u8]) -> Option<&[u8]>
     ensures { IfSome result (λ text. BeginsText ahead.now text.now) }
 {
@@ -86,6 +86,17 @@ fn source_at<'i>(alloc: Global, whole: &'i [u8], taken: usize) -> SliceRead<'i>
     }
     source.advance(taken);
     source
+}
+
+// Whether an item that is no unit stands at the front of these bytes, whole.
+fn is_other(alloc: Global, bytes: &[u8], levels: u64) -> Result<bool> {
+    let mut decoder = Decoder::new(alloc, SliceRead::new(alloc, bytes));
+    decoder.levels = levels;
+    match read_unit(&mut decoder) {
+        Err(error) if error.is_data() => Ok(true),
+        Err(error) if error.is_memory() => Err(error),
+        _ => Ok(false),
+    }
 }
 
 impl<'i> Cbor<'i> {
@@ -157,51 +168,60 @@ impl<'i> Cbor<'i> {
 
     // The kind of the item at the front, where a look at its first byte doesn't show it.
     #[inline(never)]
-    fn kind_within(&mut self) -> Result<Kind> {
-        let here = self.here();
+    fn kind_in_tags(&mut self) -> Result<Kind>
+        ensures { OnOk result (self.new ≡ self.old) }
+    {
+        let alloc = self.decoder.alloc;
+        let levels = self.decoder.levels;
+        match kind_within(alloc, self.decoder.source.ahead(), levels) {
+            Some(kind) => Ok(kind),
+            None => Err(self.no_kind()),
+        }
+    }
+
+    // Why no head of an item stands at the front within tags.
+    #[cold]
+    #[inline(never)]
+    fn no_kind(&mut self) -> Error {
+        let levels = self.decoder.levels;
         let head = tagged_head(&mut self.decoder);
-        self.decoder.levels = here.levels;
+        self.decoder.levels = levels;
         match head {
-            Ok(head) => match kind_of(head) {
-                Some(kind) => {
-                    self.go_to(here);
-                    Ok(kind)
-                }
-                None => {
-                    let refused = self.decoder.refuse(ReadErrorCode::UnexpectedCode);
-                    Err(self.decoder.error(refused))
-                }
-            },
-            Err(refused) => Err(self.decoder.error(refused)),
+            Ok(_) => {
+                let refused = self.decoder.refuse(ReadErrorCode::UnexpectedCode);
+                self.decoder.error(refused)
+            }
+            Err(refused) => self.decoder.error(refused),
         }
     }
 
     /// The kind of the item at the front, within its tags; nothing is taken.
     #[inline(always)]
-    pub(crate) fn kind(&mut self) -> Result<Kind> {
+    pub(crate) fn kind(&mut self) -> Result<Kind>
+        ensures { OnOk result (self.new ≡ self.old) }
+    {
         match self.decoder.source.ahead().first().copied() {
             Some(first) => match kind_at(first) {
                 Some(kind) => Ok(kind),
-                None => self.kind_within(),
+                None => self.kind_in_tags(),
             },
-            None => self.kind_within(),
+            None => self.kind_in_tags(),
         }
     }
 
     /// Takes a unit within tags, if one comes.
     #[inline(never)]
     pub(crate) fn take_unit_within(&mut self) -> Result<bool>
-        ensures { IfOk result (λ b. IsTrue b → ReadsAs IsUnit self.old tt self.new) }
+        ensures { IfOk result (λ b. MatchBool b (ReadsAs IsUnit self.old tt self.new)
+            (self.new ≡ self.old)) }
     {
-        let here = self.here();
-        match read_unit(&mut self.decoder) {
-            Ok(()) => Ok(true),
-            Err(error) if error.is_data() => {
-                self.go_to(here);
-                Ok(false)
-            }
-            Err(error) => Err(error),
+        let alloc = self.decoder.alloc;
+        let levels = self.decoder.levels;
+        if is_other(alloc, self.decoder.source.ahead(), levels)? {
+            return Ok(false);
         }
+        read_unit(&mut self.decoder)?;
+        Ok(true)
     }
 
     /// An array or a map has begun, outside of which so many levels are left.
@@ -228,7 +248,7 @@ impl<'i> Cbor<'i> {
     /// Whether another pair comes of the map that is innermost. At its end it is left.
     #[inline(always)]
     pub(crate) fn more(&mut self) -> Result<bool>
-        ensures { IfOk result (λ b. MatchBool b (TakesKey self.old self.new)
+        ensures { IfOk result (λ b. MatchBool b (CountsPair self.old self.new)
             (Closes end_in_map self.old self.new)) }
     {
         match more_pairs(&mut self.decoder, &mut self.innermost.remaining) {
@@ -258,7 +278,8 @@ impl<'i> Cbor<'i> {
     /// Whether another item comes of the array that is innermost. At its end it is left.
     #[inline(never)]
     pub(crate) fn more_items(&mut self) -> Result<bool>
-        ensures { IfOk result (λ b. MatchBool b ⊤ (Closes end_in_array self.old self.new)) }
+        ensures { IfOk result (λ b. MatchBool b (CountsItem self.old self.new)
+            (Closes end_in_array self.old self.new)) }
     {
         if more_items(&mut self.decoder, &mut self.innermost.remaining)? {
             return Ok(true);
@@ -269,10 +290,9 @@ impl<'i> Cbor<'i> {
 
     /// Takes a text of up to 23 bytes that are at hand.
     #[inline(always)]
-    #[tactic(auto, using(crate::proofs::ShortTexts::short_taken))]
     pub(crate) fn text_at_hand(&mut self) -> std::result::Result<Option<String>, AllocError>
         ensures { IfOk result (λ o. MatchOption o (self.new ≡ self.old)
-            (λ text. TakesText self.old (string_bytes text) self.new)) }
+            (λ text. ReadsAs IsText self.old (string_bytes text) self.new)) }
     {
         let Some(bytes) = short_text(self.decoder.source.ahead()) else {
             return Ok(None);
@@ -290,7 +310,7 @@ impl<'i> Cbor<'i> {
     #[inline(always)]
     pub(crate) fn key_at_hand(&mut self, names: &[Name<'_>]) -> Option<usize>
         ensures { MatchOption result (self.new ≡ self.old)
-            (λ at. TakesName self.old names.now at self.new) }
+            (λ at. TakesKey self.old names.now at self.new) }
     {
         if self.options.integer_keys {
             return None;
@@ -308,51 +328,59 @@ impl<'i> Cbor<'i> {
     /// The place of the next key of a map; None at its end.
     #[inline(never)]
     pub(crate) fn any_key(&mut self, names: &[Name<'_>]) -> Result<Option<usize>>
-        ensures { IfOk result (λ at. MatchOption at (Closes end_in_map self.old self.new) (λ _. ⊤)) }
+        ensures { IfOk result (λ o. MatchOption o (Closes end_in_map self.old self.new)
+            (λ at. TakesKey self.old names.now at self.new)) }
     {
+        let integer_keys = self.options.integer_keys;
         if !self.more()? {
             return Ok(None);
         }
-        let place = self.named(names, self.options.integer_keys)?;
+        let place = self.named(names, integer_keys)?;
         Ok(Some(place))
     }
 
     /// Takes a name, and finds it.
     #[inline(always)]
-    pub(crate) fn named(&mut self, names: &[Name<'_>], integer_keys: bool) -> Result<usize> {
+    pub(crate) fn named(&mut self, names: &[Name<'_>], integer_keys: bool) -> Result<usize>
+        ensures { IfOk result (λ at. TakesName integer_keys self.old names.now at self.new) }
+    {
         match self.kind()? {
-            Kind::Str => match read_text(&mut self.decoder) {
-                Ok(EitherStr::Short(key)) => Ok(place_of(names, key, integer_keys)),
-                Ok(EitherStr::Long(key)) => Ok(place_of(names, key, integer_keys)),
-                Err(why) => Err(unread_error(&mut self.decoder, why, NO_NAME)),
-            },
-            other => self.other_name(other, names, integer_keys),
-        }
-    }
-
-    // Takes a name that is no text.
-    #[inline(never)]
-    fn other_name(&mut self, kind: Kind, names: &[Name<'_>], integer_keys: bool) -> Result<usize> {
-        match kind {
-            Kind::Bytes => match read_bytes(&mut self.decoder) {
-                Ok(EitherLifetime::Short(key)) => Ok(place_of_bytes(names, key, integer_keys)),
-                Ok(EitherLifetime::Long(key)) => Ok(place_of_bytes(names, key, integer_keys)),
-                Err(why) => Err(unread_error(&mut self.decoder, why, NO_NAME)),
-            },
-            Kind::Unsigned | Kind::Signed => self.numbered(names, integer_keys),
+            Kind::Str => self.text_name(names, integer_keys),
+            Kind::Bytes => self.bytes_name(names, integer_keys),
+            Kind::Unsigned | Kind::Signed => self.integer_name(names, integer_keys),
             _ => Err(self.message(NO_NAME)),
         }
     }
 
+    // Takes a text: the name that it is.
+    #[inline(always)]
+    fn text_name(&mut self, names: &[Name<'_>], integer_keys: bool) -> Result<usize>
+        ensures { IfOk result (λ at. TakesName integer_keys self.old names.now at self.new) }
+    {
+        match read_text(&mut self.decoder) {
+            Ok(key) => Ok(place_of_text(names, key, integer_keys)),
+            Err(why) => Err(unread_error(&mut self.decoder, why, NO_NAME)),
+        }
+    }
+
+    // Takes a byte string: the name that it is.
+    #[inline(never)]
+    fn bytes_name(&mut self, names: &[Name<'_>], integer_keys: bool) -> Result<usize>
+        ensures { IfOk result (λ at. TakesName integer_keys self.old names.now at self.new) }
+    {
+        match read_bytes(&mut self.decoder) {
+            Ok(key) => Ok(place_of_part(names, key, integer_keys)),
+            Err(why) => Err(unread_error(&mut self.decoder, why, NO_NAME)),
+        }
+    }
+
     // Takes an integer: the name that is its text, or the number of a field.
-    fn numbered(&mut self, names: &[Name<'_>], integer_keys: bool) -> Result<usize> {
+    #[inline(never)]
+    fn integer_name(&mut self, names: &[Name<'_>], integer_keys: bool) -> Result<usize>
+        ensures { IfOk result (λ at. TakesName integer_keys self.old names.now at self.new) }
+    {
         let number = read_integer(&mut self.decoder)?;
-        if integer_keys {
-            return Ok(place_of_integer(self.decoder.alloc, names, number)?);
-        }
-        match u64::try_from(number) {
-            Ok(n) => Ok(place_of_number(names, n)),
-            Err(_) => Ok(usize::MAX),
-        }
+        let place = place_of_integer(self.decoder.alloc, names, number, integer_keys)?;
+        Ok(place)
     }
 }

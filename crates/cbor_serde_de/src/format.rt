@@ -1,5 +1,8 @@
 //! CBOR as a `Format` of the kit's `serde`.
 
+ghost use Rattle.std.specs.Prelude.{◌≡◌, IfOk, IfSome, slice_range};
+ghost use Rattle.cbor_decode_as.specs.Strings.{IsOneCharacter, text_bytes};
+
 use crate::cbor::{Cbor, Mark};
 use cbor_decode_as::borrowed::{EitherStr, read_byte_string, read_text, unread_error};
 use cbor_decode_as::byte_string::read_byte_string as read_own_bytes;
@@ -20,8 +23,13 @@ use std::num::{
 /// The message of what doesn't stand in the input as it reads, or is of another kind.
 const NOT_LENT: &str = "invalid type: expected a borrowed string";
 
+/// The message of an item that isn't a character.
+const NO_CHARACTER: &str = "invalid type: expected a character";
+
 // Where the string that ends here stands in the input.
-fn part_of(input: &[u8], end: usize, string: &[u8]) -> Option<(usize, usize)> {
+fn part_of(input: &[u8], end: usize, string: &[u8]) -> Option<(usize, usize)>
+    ensures { IfSome result (λ part. slice_range input.now part.0 part.1 ≡ string.now) }
+{
     let start = end.checked_sub(string.len())?;
     if input.get(start..end)? == string {
         Some((start, end))
@@ -30,23 +38,54 @@ fn part_of(input: &[u8], end: usize, string: &[u8]) -> Option<(usize, usize)> {
     }
 }
 
-fn one_char(text: &str) -> Option<char> {
-    let mut chars = text.chars();
-    let only = chars.next()?;
-    if chars.next().is_some() {
-        return None;
+// The one character that a text is.
+fn one_char(text: &str) -> Option<char>
+    ensures { IfSome result (λ c. IsOneCharacter text.now c) }
+{
+    let first = text.chars().next()?;
+    if first.len_utf8() == text.len() {
+        Some(first)
+    } else {
+        None
     }
-    Some(only)
+}
+
+// The one character that a lent text is.
+fn character(text: EitherStr<'_, '_>) -> Option<char>
+    ensures { IfSome result (λ c. IsOneCharacter (text_bytes text.entry) c) }
+{
+    match text {
+        EitherStr::Short(text) => one_char(text),
+        EitherStr::Long(text) => one_char(text),
+    }
+}
+
+impl<'i> Cbor<'i> {
+    // Where the string that was just taken stands in the input.
+    #[inline(always)]
+    fn lent_part(&self, input: &[u8], string: &[u8]) -> Result<(usize, usize)>
+        ensures { IfOk result (λ part. slice_range input.now part.0 part.1 ≡ string.now) }
+    {
+        match part_of(input, self.decoder.source.byte_offset(), string) {
+            Some(part) => Ok(part),
+            None => Err(self.message(NOT_LENT)),
+        }
+    }
 }
 
 impl<'i> Format for Cbor<'i> {
-    ghost use Rattle.cbor_serde_de.specs.Given.{Given};
+    ghost use Rattle.std.specs.Prelude.{OnOk};
+    ghost use Rattle.cbor_serde_de.specs.Given.{Given, IsAny, Looked, Picked, ReadsAs};
 
     type Error = Error;
 
     type Mark = Mark;
 
     ghost gives = { λ old _ e new. Given old e new };
+
+    ghost picks = { λ old _ is_key names at new. Picked old is_key names at new };
+
+    ghost stays = { λ old new. Looked old new };
 
     #[inline(always)]
     fn bool(&mut self, _input: &[u8]) -> Result<bool> {
@@ -99,44 +138,31 @@ impl<'i> Format for Cbor<'i> {
     }
 
     fn char(&mut self, _input: &[u8]) -> Result<char> {
-        let read = match read_text(&mut self.decoder) {
-            Ok(EitherStr::Short(text)) => one_char(text),
-            Ok(EitherStr::Long(text)) => one_char(text),
-            Err(why) => return Err(unread_error(
-                &mut self.decoder,
-                why,
-                "invalid type: expected a character",
-            )),
-        };
-        match read {
-            Some(c) => Ok(c),
-            None => Err(self.message("invalid type: expected a character")),
+        let alloc = self.decoder.alloc;
+        match read_text(&mut self.decoder) {
+            Ok(text) => match character(text) {
+                Some(c) => Ok(c),
+                None => Err(Error::message(alloc, NO_CHARACTER)),
+            },
+            Err(why) => Err(unread_error(&mut self.decoder, why, NO_CHARACTER)),
         }
     }
 
     // What is in chunks isn't lent by the input.
     #[inline(always)]
     fn plain_str(&mut self, input: &[u8]) -> Result<(usize, usize)> {
-        let text = match read_text(&mut self.decoder) {
-            Ok(EitherStr::Long(text)) => text.as_bytes(),
-            Ok(EitherStr::Short(_)) => return Err(self.message(NOT_LENT)),
-            Err(why) => return Err(unread_error(&mut self.decoder, why, NOT_LENT)),
-        };
-        match part_of(input, self.decoder.source.byte_offset(), text) {
-            Some(part) => Ok(part),
-            None => Err(self.message(NOT_LENT)),
+        match read_text(&mut self.decoder) {
+            Ok(EitherStr::Long(text)) => self.lent_part(input, text.as_bytes()),
+            Ok(EitherStr::Short(_)) => Err(self.message(NOT_LENT)),
+            Err(why) => Err(unread_error(&mut self.decoder, why, NOT_LENT)),
         }
     }
 
     fn plain_bytes(&mut self, input: &[u8]) -> Result<(usize, usize)> {
-        let bytes = match read_byte_string(&mut self.decoder) {
-            Ok(EitherLifetime::Long(bytes)) => bytes,
-            Ok(EitherLifetime::Short(_)) => return Err(self.message(NOT_LENT)),
-            Err(why) => return Err(unread_error(&mut self.decoder, why, NOT_LENT)),
-        };
-        match part_of(input, self.decoder.source.byte_offset(), bytes) {
-            Some(part) => Ok(part),
-            None => Err(self.message(NOT_LENT)),
+        match read_byte_string(&mut self.decoder) {
+            Ok(EitherLifetime::Long(bytes)) => self.lent_part(input, bytes),
+            Ok(EitherLifetime::Short(_)) => Err(self.message(NOT_LENT)),
+            Err(why) => Err(unread_error(&mut self.decoder, why, NOT_LENT)),
         }
     }
 
@@ -245,7 +271,9 @@ impl<'i> Format for Cbor<'i> {
     }
 
     #[inline(always)]
-    fn skip(&mut self, _input: &[u8]) -> Result<()> {
+    fn skip(&mut self, _input: &[u8]) -> Result<()>
+        ensures { OnOk result (ReadsAs IsAny self.old tt self.new) }
+    {
         match self.decoder.skip() {
             Ok(()) => Ok(()),
             Err(refused) => Err(self.decoder.error(refused)),

@@ -3,8 +3,11 @@
 ghost use Rattle.std.specs.Prelude.{◌≡◌};
 ghost use Rattle.cbor_serde_de.specs.Kinds.{kind_of};
 
-use cbor_decode::Head;
+use cbor_decode::{Decoder, Head};
+use cbor_decode_as::head::tagged_head;
+use cbor_read::SliceRead;
 use serde::Kind;
+use std::alloc::Global;
 
 /// The kind of the item that begins with this byte; None of a tag and of what begins no item.
 #[inline(always)]
@@ -38,5 +41,16 @@ pub(crate) fn kind_of(head: Head) -> Option<Kind>
         Head::Null | Head::Undefined => Some(Kind::Unit),
         Head::Float(_) => Some(Kind::Float),
         Head::Tag(_) | Head::Break => None,
+    }
+}
+
+/// The kind of the item at the front of these bytes within its tags, of which so many levels are
+/// read; None where no head of an item stands there.
+pub(crate) fn kind_within(alloc: Global, bytes: &[u8], levels: u64) -> Option<Kind> {
+    let mut decoder = Decoder::new(alloc, SliceRead::new(alloc, bytes));
+    decoder.levels = levels;
+    match tagged_head(&mut decoder) {
+        Ok(head) => kind_of(head),
+        Err(_) => None,
     }
 }

@@ -1,9 +1,14 @@
 //! The places of keys among names.
 
 ghost use Rattle.std.specs.Prelude.{◌≡◌, ◌↔◌, ◌<◌, ◌+◌, [], false, length, IsTrue, IfOk, IfSome, MatchBool};
+ghost use Rattle.std.specs.Prelude.{IsUtf8, OnSome};
 ghost use Rattle.serde.specs.Names.{Finds, NoneBelow, StandsFor};
-ghost use Rattle.cbor_serde_de.specs.Keys.{PicksText, PicksBytes};
+ghost use Rattle.cbor_read.specs.Source.{part_bytes};
+ghost use Rattle.cbor_decode_as.specs.Strings.{text_bytes};
+ghost use Rattle.cbor_serde_de.specs.Keys.{IsNumbered, PicksBytes, PicksInteger, PicksText};
 
+use cbor_decode_as::borrowed::EitherStr;
+use cbor_read::EitherLifetime;
 use cbor_serde_options::number_of;
 use serde::{Case, Name, find};
 use std::alloc::{AllocError, Global};
@@ -20,6 +25,17 @@ pub(crate) fn place_of(names: &[Name<'_>], key: &str, integer_keys: bool) -> usi
     find(names, key)
 }
 
+/// The place of the name that a lent text stands for.
+#[inline(always)]
+pub(crate) fn place_of_text(names: &[Name<'_>], key: EitherStr<'_, '_>, integer_keys: bool) -> usize
+    ensures { PicksText integer_keys names.now (text_bytes key.entry) result }
+{
+    match key {
+        EitherStr::Short(key) => place_of(names, key, integer_keys),
+        EitherStr::Long(key) => place_of(names, key, integer_keys),
+    }
+}
+
 // Whether the name is read as it is spelled, and as nothing else.
 #[inline(always)]
 fn is_plain(name: &Name<'_>) -> bool
@@ -32,7 +48,8 @@ fn is_plain(name: &Name<'_>) -> bool
 // Whether a key of these bytes stands for the name, if that is plain.
 #[inline(always)]
 fn is_plain_name(name: &Name<'_>, key: &[u8]) -> Option<bool>
-    ensures { IfSome result (λ b. IsTrue b ↔ StandsFor key.now name.now) }
+    ensures named { IfSome result (λ b. IsTrue b ↔ StandsFor key.now name.now) }
+    ensures utf8 { IfSome result (λ b. IsTrue b → IsUtf8 key.now) }
 {
     if is_plain(name) {
         Some(name.name.as_bytes() == key)
@@ -46,8 +63,9 @@ fn is_plain_name(name: &Name<'_>, key: &[u8]) -> Option<bool>
 fn is_first_plain(names: &[Name<'_>], at: usize, key: &[u8]) -> Option<bool>
     requires inside { at < length names.now }
     requires below { NoneBelow names.now key.now at }
-    ensures { IfSome result (λ b. MatchBool b (Finds names.now key.now at)
+    ensures named { IfSome result (λ b. MatchBool b (Finds names.now key.now at)
         (NoneBelow names.now key.now (at + 1))) }
+    ensures utf8 { IfSome result (λ b. IsTrue b → IsUtf8 key.now) }
 {
     is_plain_name(&names[at], key)
 }
@@ -56,7 +74,8 @@ fn is_first_plain(names: &[Name<'_>], at: usize, key: &[u8]) -> Option<bool>
 /// plain.
 #[inline(always)]
 pub(crate) fn place_of_plain(names: &[Name<'_>], key: &[u8]) -> Option<usize>
-    ensures { IfSome result (λ at. Finds names.now key.now at) }
+    ensures found { IfSome result (λ at. Finds names.now key.now at) }
+    ensures utf8 { OnSome result (IsUtf8 key.now) }
 {
     for at in 0..names.len() {
         if is_first_plain(names, at, key)? {
@@ -66,8 +85,8 @@ pub(crate) fn place_of_plain(names: &[Name<'_>], key: &[u8]) -> Option<usize>
     None
 }
 
-/// The place of the name that these bytes are, if they are UTF-8.
-pub(crate) fn place_of_bytes(names: &[Name<'_>], key: &[u8], integer_keys: bool) -> usize
+// The place of the name that these bytes are, if they are UTF-8.
+fn place_of_bytes(names: &[Name<'_>], key: &[u8], integer_keys: bool) -> usize
     ensures { PicksBytes integer_keys names.now key.now result }
 {
     match std::str::from_utf8(key) {
@@ -76,8 +95,24 @@ pub(crate) fn place_of_bytes(names: &[Name<'_>], key: &[u8], integer_keys: bool)
     }
 }
 
-/// The place of the field or variant of this number: those that are read are counted.
-pub(crate) fn place_of_number(names: &[Name<'_>], n: u64) -> usize {
+/// The place of the name that lent bytes are, if they are UTF-8.
+pub(crate) fn place_of_part(
+    names: &[Name<'_>],
+    key: EitherLifetime<'_, '_>,
+    integer_keys: bool,
+) -> usize
+    ensures { PicksBytes integer_keys names.now (part_bytes key.entry) result }
+{
+    match key {
+        EitherLifetime::Short(key) => place_of_bytes(names, key, integer_keys),
+        EitherLifetime::Long(key) => place_of_bytes(names, key, integer_keys),
+    }
+}
+
+// The place of the field or variant of this number: those that are read are counted.
+fn place_of_number(names: &[Name<'_>], n: u64) -> usize
+    ensures { IsNumbered names.now n result }
+{
     let mut left = n;
     for at in 0..names.len() {
         if !names[at].skipped {
@@ -90,12 +125,22 @@ pub(crate) fn place_of_number(names: &[Name<'_>], n: u64) -> usize {
     usize::MAX
 }
 
-/// The place of the name that is the integer's decimal text.
+/// The place of the name that an integer stands for: where names are integers, the one that is its
+/// decimal text, and else by its number.
 pub(crate) fn place_of_integer(
     alloc: Global,
     names: &[Name<'_>],
     n: i128,
-) -> std::result::Result<usize, AllocError> {
-    let text = format!(in alloc; "{n}")?;
-    Ok(find(names, text.as_str()))
+    integer_keys: bool,
+) -> std::result::Result<usize, AllocError>
+    ensures { IfOk result (λ at. PicksInteger integer_keys names.now n at) }
+{
+    if integer_keys {
+        let text = format!(in alloc; "{n}")?;
+        return Ok(find(names, text.as_str()));
+    }
+    match u64::try_from(n) {
+        Ok(n) => Ok(place_of_number(names, n)),
+        Err(_) => Ok(usize::MAX),
+    }
 }

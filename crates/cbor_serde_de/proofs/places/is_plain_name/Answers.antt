@@ -1,9 +1,12 @@
 use Rattle.std.proofs.Common.{arith}
 use Rattle.std.proofs.lemmas.Grind.{common_steps}
-use Rattle.cbor_serde_de.proofs.PlainNames.{stands_for}
+use Rattle.cbor_serde_de.proofs.PlainNames.{stands_for, utf8_key}
 use Rattle.cbor_serde_de.proofs.places.is_plain_name.Goals as goal
 
-pub returns-then-is_plain : goal.returns-then-is_plain
-returns-then-is_plain c =
+pub returns-then-is_plain-clause-named : goal.returns-then-is_plain-clause-named
+returns-then-is_plain-clause-named c =
     let plain = c.is_plain.ensures (grind (arith, common_steps)) in
     stands_for c.args.name.now c.args.key.now c.as_bytes.result.now c.eq.result plain.0 plain.1 plain.2 c.as_bytes.ensures.value c.eq.ensures
+
+pub returns-then-is_plain-clause-utf8 : goal.returns-then-is_plain-clause-utf8
+returns-then-is_plain-clause-utf8 c = utf8_key c.as_bytes.result.now c.args.key.now c.eq.result c.as_bytes.ensures.utf8 c.eq.ensures

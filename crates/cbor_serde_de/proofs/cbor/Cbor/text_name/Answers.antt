@@ -1,0 +1,20 @@
+use Rattle.std.proofs.Common.{true, false, subst}
+use Rattle.cbor_read.specs.Source.{Lends, slice_refusals}
+use Rattle.cbor_decode_as.specs.Strings.{LendsText, text_bytes}
+use Rattle.cbor_decode_as.specs.Takes.{context}
+use Rattle.cbor_serde_de.specs.Keys.{PicksItem}
+use Rattle.cbor_serde_de.specs.Places.{input_of}
+use Rattle.cbor_read.specs.Sources.{input_of_slice}
+use Rattle.cbor_serde_de.proofs.Decoded.{text_lent}
+use Rattle.cbor_serde_de.proofs.Named.{text_picks}
+use Rattle.cbor_serde_de.proofs.cbor.Cbor.text_name.Goals as goal
+
+pub returns-in-Ok : goal.returns-in-Ok
+returns-in-Ok c =
+    let old = c.args.self.now in
+    let d = c.read_text.follows.lender-at-none in
+    let held = c.read_text.follows.holds-at-none in
+    let lends : Lends = record { whole = true; joined = false } in
+    let lent = subst (λ r. LendsText slice_refusals (context old.decoder.formats lends) old.decoder.levels (input_of old) (input_of_slice d.source) r) c.in-Ok.is held.2 in
+    text_lent old d (record { levels = held.0; formats = held.1 }) (PicksItem c.args.integer_keys c.args.names.now) lends c.in-Ok.key c.place_of_text.result
+    (λ r is. text_picks c.args.integer_keys c.args.names.now (text_bytes c.in-Ok.key) c.place_of_text.result c.place_of_text.ensures r is.0) lent
