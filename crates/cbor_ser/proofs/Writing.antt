@@ -5,7 +5,7 @@ use Rattle.std.specs.Result.{OnErr}
 use Rattle.std.proofs.lemmas.List.{drop_all}
 use Rattle.cbor_model.specs.Head.{short}
 use Rattle.cbor_model.specs.Spelling.{spell, spell_all, spell_pairs}
-use Rattle.cbor_model.specs.Plain.{Val, array, map, tag, Vals, no_vals, val, Pairs, no_pairs, pair, count, pair_count}
+use Rattle.cbor_model.specs.Plain.{Val, array, map, tag, Vals, Pairs, count, pair_count}
 use Rattle.cbor_model.specs.Canonical.{canon, canonical, canonical_all, canonical_pairs, IsStorable, AreStorable, ArePairsStorable}
 use Rattle.cbor_model.proofs.facts.Canonical.{count_canonical, pair_count_canonical}
 pub use Rattle.cbor_model.proofs.facts.Documents.{document_is_canonical}

@@ -37,9 +37,9 @@ impl DeserializeOwned for f32 {
 }
 
 /// A float of 16, 32 or 64 bits, of which an `f64` holds each number exactly, or an integer that it
-/// holds exactly, as 0 to 2^53. Another integer is refused with `integer out of range: expected f64`,
-/// and another item with `invalid type: expected a float`. A NaN is read as a NaN, of no particular
-/// sign or payload.
+/// holds exactly, as those from -2^53 to 2^53. Another integer is refused with `integer out of
+/// range: expected f64`, and another item with `invalid type: expected a float`. A NaN is read as a
+/// NaN, of no particular sign or payload.
 impl Readable for f64 {
     ghost use Rattle.std.specs.Prelude.{true};
     ghost use Rattle.cbor_model.specs.Readable.{PassesTags};
