@@ -34,8 +34,8 @@ use std::alloc::Global;
 ///
 /// No memory is taken beyond that of `from_slice`, but under `KeyOrder::Unique`: there each map's
 /// keys are kept while the map is gone through, as references to their bytes, and a key that isn't
-/// encoded canonically as its value's canonical encoding, which is no longer. A key is compared with
-/// as many as the logarithm of their number.
+/// encoded canonically as its value's canonical encoding, which is no longer than the key. A key is
+/// compared with as many as the logarithm of their number.
 ///
 /// ```rust
 /// let numbers: [u8; 2] = from_slice_with(alloc, &[0x82, 0x01, 0x02], Rules::DETERMINISTIC)?;
