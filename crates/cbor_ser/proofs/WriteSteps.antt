@@ -1,8 +1,8 @@
 -- What the calls of a serializer leave, put together.
 use Rattle.std.proofs.Common.{◌≡◌, ℕ, List, [], ◌++◌, Option, refl, sym, ap, ◌∙◌, subst, ◌⊎◌, inl, inr, ℤ, pos, negsuc, FitsSigned, arith, append-nil, Some, None, Bool, false, Vec}
-use Rattle.std.specs.Prelude.{Result, Ok, Err, IfErr, OnOk, OnErr}
+use Rattle.std.specs.Prelude.{Result, Ok, Err, IfErr, IfSome, OnOk, OnErr}
 use Rattle.std.specs.Option.{IsSomeAnd}
-use Rattle.std.specs.Result.{IsErrAnd}
+use Rattle.std.specs.Result.{IsErr, IsErrAnd, IsOk}
 use Rattle.std.specs.Int.{w64}
 use Rattle.std.proofs.lemmas.Int.{ints}
 use Rattle.std.specs.Io.KnownBytes.{Appends}
@@ -21,7 +21,7 @@ use Rattle.cbor_io.specs.Write.{AppendsBeginning, Wrote, HasRoomFor, TakesWhatFi
 use Rattle.cbor_ser.specs.Written.{IsUnstorable, DocumentRefused}
 use Rattle.cbor_ser.specs.Narrowed.{narrowed, narrowed_part}
 use Rattle.cbor_model.specs.Unstored.{StandsBefore, StandsBeforeIn}
-use Rattle.cbor_ser.specs.Serialized.{Added, Stopped, Serialized, Spells, bytes_under, WroteValues, StopsBefore, EndsBefore}
+use Rattle.cbor_ser.specs.Serialized.{Added, Stopped, Stepped, Serialized, Spells, bytes_under, WroteValues, StopsBefore, EndsBefore}
 use Rattle.cbor_ser.specs.declared.serializer.Settings.{Settings}
 use Rattle.cbor_ser.specs.declared.serializer.Serializer.{Serializer}
 use Rattle.cbor_ser.proofs.Narrowed.{wide, part_storable, parts_narrowed}
@@ -47,6 +47,11 @@ pub if_refused : {T E A : Type 0} {P Q : A → Type 0} (r : Result T E) (o : Opt
 if_refused (Ok x) o f h = tt
 if_refused (Err e) (Some a) f h = f a h
 if_refused (Err e) None f h = h
+
+pub refused_so : {T E A : Type 0} {P Q : A → Type 0} (r : Result T E) (o : Option A) → ((a : A) → P a → Q a) → IsSomeAnd o P → OnErr r (IsSomeAnd o Q)
+refused_so (Ok x) o f h = tt
+refused_so (Err e) (Some a) f h = f a h
+refused_so (Err e) None f h = h
 
 -- ---- the same part, put otherwise
 
@@ -318,6 +323,67 @@ module _ {W : Type 0} {written : W → Option (List ℕ)} {refuses : W → Error
   document_fits {old = old} {d = d} {r = Err e} p l begun h storable = record {
     taken = λ room. absurd (h.err.no_room storable (subst (λ bs. HasRoomFor (capacity old.writer) (written old.writer) bs) (sym (bytes_as_set d p l begun)) room));
   }
+
+-- ---- steps, which leave their error with the caller
+
+module _ {W : Type 0} {written : W → Option (List ℕ)} {refuses : W → Error → Type 0} {references : W → List ℕ} {capacity : W → Option ℕ} where
+  -- these bytes were written, which are the part's
+  pub stepped : {T E : Type 0} {old new : Serializer W} {bytes : List ℕ} {o : Option Error} (part : Part) (done : Result T E) → Spells old.settings part bytes → new.settings ≡ old.settings
+      → references new.writer ≡ references old.writer → capacity new.writer ≡ capacity old.writer → Wrote (written old.writer) bytes (written new.writer) done
+      → OnErr done (IsSomeAnd o (refuses new.writer)) → TakesWhatFits (capacity old.writer) (written old.writer) bytes done → Stepped written refuses references capacity old part new done o
+  stepped {T = T} part (Ok x) spells kept same_references same_capacity w refused fits = record {
+    ok = (serialized {refuses = refuses} {T = T} part (Ok x) spells kept same_references same_capacity (record { ok = w.ok; err = tt }) tt (record { taken = λ room. fits.taken room })).ok;
+    err = tt;
+  }
+  stepped {T = T} {o = o} part (Err x) spells kept same_references same_capacity w refused fits = record {
+    ok = tt;
+    err = if_refused {T = T} (Err x) o (λ e refused. (serialized {refuses = refuses} {T = T} part (Err e) spells kept same_references same_capacity (record { ok = tt; err = w.err }) refused (record { taken = λ room. fits.taken room })).err) refused;
+  }
+
+  -- a part was appended, and then the rest
+  pub step_then : {T E : Type 0} {old mid new : Serializer W} {f g : Part} {done : Result T E} {o : Option Error} → Added written references capacity old f mid
+      → Stepped written refuses references capacity mid g new done o → Stepped written refuses references capacity old (both f g) new done o
+  step_then {done = Ok x} a h = record { ok = added_then a h.ok; err = tt }
+  step_then {T = T} {done = Err x} {o = o} a h = record { ok = tt; err = if_refused {T = T} (Err x) o (λ e b. stopped_then a b) h.err }
+
+  -- the exit of a `?`, before more parts
+  pub step_stops : {T E : Type 0} {old new : Serializer W} {f : Part} (g : Part) {done : Result T E} {o : Option Error} → IsErr done
+      → IsSomeAnd o (Stopped written refuses references capacity old f new) → Stepped written refuses references capacity old (both f g) new done o
+  step_stops g {done = Ok x} is h = cc
+  step_stops g {done = Err x} {o = Some e} is h = record { ok = tt; err = stopped_before g h }
+  step_stops g {done = Err x} {o = None} is h = absurd h
+
+  -- the same part, put otherwise
+  pub same_step : {T E : Type 0} {old new : Serializer W} {f g : Part} {done : Result T E} {o : Option Error} → f ≡ g
+      → Stepped written refuses references capacity old f new done o → Stepped written refuses references capacity old g new done o
+  same_step {old = old} {new = new} {done = done} {o = o} is h = subst (λ p. Stepped written refuses references capacity old p new done o) is h
+
+  pub same_part_step : {T E : Type 0} {old new : Serializer W} {f g : Part} {done : Result T E} {o : Option Error} → Same old.settings f g
+      → Stepped written refuses references capacity old f new done o → Stepped written refuses references capacity old g new done o
+  same_part_step {T = T} {done = Ok x} is h = record { ok = (same_part {refuses = refuses} {T = T} {r = Ok x} is (record { ok = h.ok; err = tt })).ok; err = tt }
+  same_part_step {T = T} {done = Err x} {o = o} is h = record {
+    ok = tt;
+    err = if_refused {T = T} (Err x) o (λ e b. (same_part {refuses = refuses} {T = T} {r = Err e} is (record { ok = tt; err = b })).err) h.err;
+  }
+
+  -- a document is its parts
+  pub step_by_parts : {T E : Type 0} {old new : Serializer W} {d : Doc} {done : Result T E} {o : Option Error}
+      → Stepped written refuses references capacity old (parts d) new done o → Stepped written refuses references capacity old (item d) new done o
+  step_by_parts {old = old} {d = d} h = same_part_step (parts_same old.settings d) h
+
+  -- no byte was to be written
+  pub nothing_step : {E : Type 0} {old : Serializer W} {o : Option Error} (part : Part) → bytes_under old.settings part ≡ [] → IsStorablePart part → IsPartInRange part
+      → Stepped {T = Unit {0}} {E = E} written refuses references capacity old part old (Ok tt) o
+  nothing_step part none storable in_range = record { ok = (nothing_is {refuses = refuses} part none storable in_range).ok; err = tt }
+
+  -- the answer of a call whose steps left this refusal
+  pub answered : {T U E : Type 0} {old new : Serializer W} {f : Part} {done : Result T E} {o : Option Error} {r : Result U Error} → OnOk done (IsOk r)
+      → OnErr done (IfSome o (λ e. r ≡ Err e)) → Stepped written refuses references capacity old f new done o → Serialized written refuses references capacity old f new r
+  answered {done = Ok x} {r = Ok y} ok err h = record { ok = h.ok; err = tt }
+  answered {done = Ok x} {r = Err e} ok err h = cc
+  answered {done = Err x} {o = None} ok err h = absurd h.err
+  answered {old = old} {new = new} {f = f} {done = Err x} {o = Some e} ok err h =
+      subst (λ z. Serialized written refuses references capacity old f new z) (sym err) (record { ok = tt; err = h.err })
 
 -- ---- a document that is a value's, written to a sink
 

@@ -1,7 +1,8 @@
 -- What a call of a serializer leaves: a part of a document was appended to its sink, or a beginning
 -- of that part. `written` gives a sink's bytes, `refuses` its errors, `references` what it writes
 -- through, and `capacity` how many bytes it takes, as `Write` has them.
-use Rattle.std.specs.Prelude.{◌≡◌, ℕ, List, Option, ◌⊎◌, Bool, Result, OnOk, IfErr}
+use Rattle.std.specs.Prelude.{◌≡◌, ℕ, List, Option, ◌⊎◌, Bool, Result, OnOk, OnErr, IfErr}
+use Rattle.std.specs.Option.{IsSomeAnd}
 use Rattle.std.specs.Io.KnownBytes.{Appends}
 use Rattle.cbor_model.specs.Plain.{Val}
 use Rattle.cbor_model.specs.Canonical.{IsStorable, canon}
@@ -69,6 +70,14 @@ pub record Serialized {T W : Type 0} (written : W → Option (List ℕ)) (refuse
     (new : Serializer W) (result : Result T Error) : Type 0 where
   pub ok : OnOk result (Added written references capacity old part new)
   pub err : IfErr result (Stopped written refuses references capacity old part new)
+
+-- The same of a step, which leaves its error with its caller.
+pub record Stepped {T E W : Type 0} (written : W → Option (List ℕ)) (refuses : W → Error → Type 0)
+    (references : W → List ℕ) (capacity : W → Option ℕ) (old : Serializer W) (part : Part)
+    (new : Serializer W) (done : Result T E) (refusal : Option Error) : Type 0 where
+  pub ok : OnOk done (Added written references capacity old part new)
+  pub err : OnErr done
+      (IsSomeAnd refusal (Stopped written refuses references capacity old part new))
 
 -- under these settings the part is spelled so, and all its numbers fit
 pub record Spells (s : Settings) (part : Part) (bytes : List ℕ) : Type 0 where

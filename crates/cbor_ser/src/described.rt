@@ -1,17 +1,18 @@
 //! Structs and enums that are written from tuples of references.
 
-ghost use Rattle.std.specs.Prelude.{◌≡◌, ◌<◌};
+ghost use Rattle.std.specs.Prelude.{◌≡◌, ◌<◌, length, map};
 ghost use Rattle.cbor_model.specs.Document.{structure, unit_variant, newtype_variant};
 ghost use Rattle.cbor_model.specs.Document.{tuple_variant, struct_variant};
 ghost use Rattle.cbor_model.specs.Parts.{item};
 ghost use Rattle.cbor_ser.specs.PartLists.{name_in};
-ghost use Rattle.cbor_ser.specs.Serialized.{Serialized};
+ghost use Rattle.cbor_ser.specs.Serialized.{Serialized, Stepped};
 
 use crate::fields::SerializeFields;
+use crate::items::{WriteDone, answer};
 use crate::serialize::Serialize;
 use crate::serializer::Serializer;
 use crate::tuples::SerializeTuple;
-use cbor_io::error::Result;
+use cbor_io::error::{Error, Result};
 use cbor_io::write::Write;
 use cbor_parts::{FieldNames, Newtype, Schema, Tuple};
 
@@ -103,7 +104,9 @@ impl<N: FieldNames, F: SerializeFields> SerializeVariant for NamedFields<N, F> {
         name: &str,
     ) -> Result<()> {
         ser.write_struct_head(number, name, self.1.len())?;
-        self.1.serialize_as_fields(ser, N::names())
+        let mut refusal = None;
+        let done = self.1.serialize_as_fields(ser, N::names(), &mut refusal);
+        answer(done, refusal)
     }
 }
 
@@ -130,8 +133,25 @@ impl<W: Write> Serializer<W> {
         ensures { Serialized W.written W.refuses W.references W.capacity self.old
             (item (structure (F.fields T.names fields.now))) self.new result }
     {
-        self.write_map_head(Some(fields.len()))?;
-        fields.serialize_as_fields(self, T::names())
+        let mut refusal = None;
+        let done = self.fields_step(fields, T::names(), &mut refusal);
+        answer(done, refusal)
+    }
+
+    // Appends the map of these fields, by these names or their numbers.
+    fn fields_step<F: SerializeFields>(
+        &mut self,
+        fields: &F,
+        names: &[&str],
+        refusal: &mut Option<Error>,
+    ) -> WriteDone
+        requires { length names.now ≡ F.count }
+        ensures { Stepped W.written W.refuses W.references W.capacity self.old
+            (item (structure (F.fields (map (λ n. n.now) names.now) fields.now))) self.new result
+            refusal.new }
+    {
+        self.map_step(fields.len(), refusal)?;
+        fields.serialize_as_fields(self, names, refusal)
     }
 
     /// Writes a variant of an enum, by its number among those that the enum's description names.

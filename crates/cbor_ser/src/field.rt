@@ -3,11 +3,12 @@
 ghost use Rattle.std.specs.Prelude.{◌≡◌, IfSome, IfNone, IsOk};
 ghost use Rattle.std.specs.Option.{is_some};
 ghost use Rattle.cbor_model.specs.Parts.{field_part};
-ghost use Rattle.cbor_ser.specs.Serialized.{Serialized};
+ghost use Rattle.cbor_ser.specs.Serialized.{Stepped};
 
+use crate::items::WriteDone;
 use crate::serialize::Serialize;
 use crate::serializer::Serializer;
-use cbor_io::error::Result;
+use cbor_io::error::Error;
 use cbor_io::write::Write;
 
 /// A field of a struct, to be written: a reference, or an [`OptionalField`].
@@ -22,17 +23,18 @@ pub trait SerializeField {
     fn is_written(&self) -> bool
         ensures { result ≡ is_some (document self.now) };
 
-    /// Appends the field, by this name or this number. One that is left out isn't written, and the
-    /// serializer is left as it was.
+    /// Appends the field, by this name or this number, and leaves an error in `refusal`. One that is
+    /// left out isn't written, and the serializer is left as it was.
     fn serialize_as_field<W: Write>(
         &self,
         ser: &mut Serializer<W>,
         number: u32,
         name: &str,
-    ) -> Result<()>
+        refusal: &mut Option<Error>,
+    ) -> WriteDone
         ensures written { IfSome (document self.now) (λ d.
-            Serialized W.written W.refuses W.references W.capacity ser.old
-            (field_part number name.now d) ser.new result) }
+            Stepped W.written W.refuses W.references W.capacity ser.old
+            (field_part number name.now d) ser.new result refusal.new) }
         ensures left_out { IfNone (document self.now) (IsOk result × (ser.new ≡ ser.old)) };
 }
 
@@ -50,8 +52,9 @@ impl<'a, T: Serialize> SerializeField for &'a T {
         ser: &mut Serializer<W>,
         number: u32,
         name: &str,
-    ) -> Result<()> {
-        ser.write_field(number, name, *self)
+        refusal: &mut Option<Error>,
+    ) -> WriteDone {
+        ser.field_step(number, name, *self, refusal)
     }
 }
 
@@ -83,9 +86,10 @@ impl<'a, T: Serialize> SerializeField for OptionalField<'a, T> {
         ser: &mut Serializer<W>,
         number: u32,
         name: &str,
-    ) -> Result<()> {
+        refusal: &mut Option<Error>,
+    ) -> WriteDone {
         match self.0 {
-            Some(value) => ser.write_field(number, name, value),
+            Some(value) => ser.field_step(number, name, value, refusal),
             None => Ok(()),
         }
     }

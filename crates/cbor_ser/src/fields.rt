@@ -4,13 +4,16 @@ ghost use Rattle.std.specs.Prelude.{◌≡◌, length, map};
 ghost use Rattle.cbor_model.specs.Document.{field_count, no_fields};
 ghost use Rattle.cbor_model.specs.Parts as part;
 ghost use Rattle.cbor_ser.specs.PartLists.{field_if, name_in};
-ghost use Rattle.cbor_ser.specs.Serialized.{Serialized};
+ghost use Rattle.cbor_ser.specs.Serialized.{Stepped};
 
 use crate::field::SerializeField;
+use crate::items::WriteDone;
 use crate::part_list::WriteFields;
 use crate::serializer::Serializer;
-use cbor_io::error::Result;
+use cbor_io::error::Error;
 use cbor_io::write::Write;
+
+mod long;
 
 /// The fields of a struct, to be written: a tuple of references, as `(&self.x, &self.y)`, and of
 /// [`OptionalField`](crate::OptionalField)s.
@@ -28,11 +31,18 @@ pub trait SerializeFields {
     fn len(&self) -> usize
         ensures { (ns : List (List ℕ)) → result ≡ field_count (fields ns self.now) };
 
-    /// Appends those that are written, by these names or their numbers, without the map's head.
-    fn serialize_as_fields<W: Write>(&self, ser: &mut Serializer<W>, names: &[&str]) -> Result<()>
+    /// Appends those that are written, by these names or their numbers, without the map's head, and
+    /// leaves an error in `refusal`.
+    fn serialize_as_fields<W: Write>(
+        &self,
+        ser: &mut Serializer<W>,
+        names: &[&str],
+        refusal: &mut Option<Error>,
+    ) -> WriteDone
         requires { length names.now ≡ count }
-        ensures { Serialized W.written W.refuses W.references W.capacity ser.old
-            (part.fields (fields (map (λ n. n.now) names.now) self.now)) ser.new result };
+        ensures { Stepped W.written W.refuses W.references W.capacity ser.old
+            (part.fields (fields (map (λ n. n.now) names.now) self.now)) ser.new result
+            refusal.new };
 }
 
 impl<A: SerializeField> SerializeFields for (A,) {
@@ -46,9 +56,14 @@ impl<A: SerializeField> SerializeFields for (A,) {
         fields.written()
     }
 
-    fn serialize_as_fields<W: Write>(&self, ser: &mut Serializer<W>, names: &[&str]) -> Result<()> {
+    fn serialize_as_fields<W: Write>(
+        &self,
+        ser: &mut Serializer<W>,
+        names: &[&str],
+        refusal: &mut Option<Error>,
+    ) -> WriteDone {
         let fields = (&self.0, ());
-        fields.write_fields(ser, 0, names)
+        fields.write_fields(ser, 0, names, refusal)
     }
 }
 
@@ -64,9 +79,14 @@ impl<A: SerializeField, B: SerializeField> SerializeFields for (A, B) {
         fields.written()
     }
 
-    fn serialize_as_fields<W: Write>(&self, ser: &mut Serializer<W>, names: &[&str]) -> Result<()> {
+    fn serialize_as_fields<W: Write>(
+        &self,
+        ser: &mut Serializer<W>,
+        names: &[&str],
+        refusal: &mut Option<Error>,
+    ) -> WriteDone {
         let fields = (&self.0, (&self.1, ()));
-        fields.write_fields(ser, 0, names)
+        fields.write_fields(ser, 0, names, refusal)
     }
 }
 
@@ -83,9 +103,14 @@ impl<A: SerializeField, B: SerializeField, C: SerializeField> SerializeFields fo
         fields.written()
     }
 
-    fn serialize_as_fields<W: Write>(&self, ser: &mut Serializer<W>, names: &[&str]) -> Result<()> {
+    fn serialize_as_fields<W: Write>(
+        &self,
+        ser: &mut Serializer<W>,
+        names: &[&str],
+        refusal: &mut Option<Error>,
+    ) -> WriteDone {
         let fields = (&self.0, (&self.1, (&self.2, ())));
-        fields.write_fields(ser, 0, names)
+        fields.write_fields(ser, 0, names, refusal)
     }
 }
 
@@ -104,9 +129,14 @@ impl<A: SerializeField, B: SerializeField, C: SerializeField, D: SerializeField>
         fields.written()
     }
 
-    fn serialize_as_fields<W: Write>(&self, ser: &mut Serializer<W>, names: &[&str]) -> Result<()> {
+    fn serialize_as_fields<W: Write>(
+        &self,
+        ser: &mut Serializer<W>,
+        names: &[&str],
+        refusal: &mut Option<Error>,
+    ) -> WriteDone {
         let fields = (&self.0, &self.1, &self.2, &self.3, ());
-        fields.write_fields(ser, 0, names)
+        fields.write_fields(ser, 0, names, refusal)
     }
 }
 
@@ -131,9 +161,14 @@ impl<
         fields.written()
     }
 
-    fn serialize_as_fields<W: Write>(&self, ser: &mut Serializer<W>, names: &[&str]) -> Result<()> {
+    fn serialize_as_fields<W: Write>(
+        &self,
+        ser: &mut Serializer<W>,
+        names: &[&str],
+        refusal: &mut Option<Error>,
+    ) -> WriteDone {
         let fields = (&self.0, &self.1, &self.2, &self.3, (&self.4, ()));
-        fields.write_fields(ser, 0, names)
+        fields.write_fields(ser, 0, names, refusal)
     }
 }
 
@@ -160,320 +195,13 @@ impl<
         fields.written()
     }
 
-    fn serialize_as_fields<W: Write>(&self, ser: &mut Serializer<W>, names: &[&str]) -> Result<()> {
+    fn serialize_as_fields<W: Write>(
+        &self,
+        ser: &mut Serializer<W>,
+        names: &[&str],
+        refusal: &mut Option<Error>,
+    ) -> WriteDone {
         let fields = (&self.0, &self.1, &self.2, &self.3, (&self.4, (&self.5, ())));
-        fields.write_fields(ser, 0, names)
-    }
-}
-
-impl<
-    A: SerializeField,
-    B: SerializeField,
-    C: SerializeField,
-    D: SerializeField,
-    E: SerializeField,
-    F: SerializeField,
-    G: SerializeField,
-> SerializeFields for (A, B, C, D, E, F, G) {
-    ghost count = { 7 };
-
-    ghost fields = { λ ns p.
-        field_if 0 (name_in ns 0) (A.document p.0)
-        (field_if 1 (name_in ns 1) (B.document p.1)
-        (field_if 2 (name_in ns 2) (C.document p.2)
-        (field_if 3 (name_in ns 3) (D.document p.3)
-        (field_if 4 (name_in ns 4) (E.document p.4)
-        (field_if 5 (name_in ns 5) (F.document p.5)
-        (field_if 6 (name_in ns 6) (G.document p.6) no_fields)))))) };
-
-    fn len(&self) -> usize {
-        let fields = (
-            &self.0,
-            &self.1,
-            &self.2,
-            &self.3,
-            (&self.4, (&self.5, (&self.6, ()))),
-        );
-        fields.written()
-    }
-
-    fn serialize_as_fields<W: Write>(&self, ser: &mut Serializer<W>, names: &[&str]) -> Result<()> {
-        let fields = (
-            &self.0,
-            &self.1,
-            &self.2,
-            &self.3,
-            (&self.4, (&self.5, (&self.6, ()))),
-        );
-        fields.write_fields(ser, 0, names)
-    }
-}
-
-impl<
-    A: SerializeField,
-    B: SerializeField,
-    C: SerializeField,
-    D: SerializeField,
-    E: SerializeField,
-    F: SerializeField,
-    G: SerializeField,
-    H: SerializeField,
-> SerializeFields for (A, B, C, D, E, F, G, H) {
-    ghost count = { 8 };
-
-    ghost fields = { λ ns p.
-        field_if 0 (name_in ns 0) (A.document p.0)
-        (field_if 1 (name_in ns 1) (B.document p.1)
-        (field_if 2 (name_in ns 2) (C.document p.2)
-        (field_if 3 (name_in ns 3) (D.document p.3)
-        (field_if 4 (name_in ns 4) (E.document p.4)
-        (field_if 5 (name_in ns 5) (F.document p.5)
-        (field_if 6 (name_in ns 6) (G.document p.6)
-        (field_if 7 (name_in ns 7) (H.document p.7) no_fields))))))) };
-
-    fn len(&self) -> usize {
-        let fields = (
-            &self.0,
-            &self.1,
-            &self.2,
-            &self.3,
-            (&self.4, &self.5, &self.6, &self.7, ()),
-        );
-        fields.written()
-    }
-
-    fn serialize_as_fields<W: Write>(&self, ser: &mut Serializer<W>, names: &[&str]) -> Result<()> {
-        let fields = (
-            &self.0,
-            &self.1,
-            &self.2,
-            &self.3,
-            (&self.4, &self.5, &self.6, &self.7, ()),
-        );
-        fields.write_fields(ser, 0, names)
-    }
-}
-
-impl<
-    A: SerializeField,
-    B: SerializeField,
-    C: SerializeField,
-    D: SerializeField,
-    E: SerializeField,
-    F: SerializeField,
-    G: SerializeField,
-    H: SerializeField,
-    I: SerializeField,
-> SerializeFields for (A, B, C, D, E, F, G, H, I) {
-    ghost count = { 9 };
-
-    ghost fields = { λ ns p.
-        field_if 0 (name_in ns 0) (A.document p.0)
-        (field_if 1 (name_in ns 1) (B.document p.1)
-        (field_if 2 (name_in ns 2) (C.document p.2)
-        (field_if 3 (name_in ns 3) (D.document p.3)
-        (field_if 4 (name_in ns 4) (E.document p.4)
-        (field_if 5 (name_in ns 5) (F.document p.5)
-        (field_if 6 (name_in ns 6) (G.document p.6)
-        (field_if 7 (name_in ns 7) (H.document p.7)
-        (field_if 8 (name_in ns 8) (I.document p.8) no_fields)))))))) };
-
-    fn len(&self) -> usize {
-        let fields = (
-            &self.0,
-            &self.1,
-            &self.2,
-            &self.3,
-            (&self.4, &self.5, &self.6, &self.7, (&self.8, ())),
-        );
-        fields.written()
-    }
-
-    fn serialize_as_fields<W: Write>(&self, ser: &mut Serializer<W>, names: &[&str]) -> Result<()> {
-        let fields = (
-            &self.0,
-            &self.1,
-            &self.2,
-            &self.3,
-            (&self.4, &self.5, &self.6, &self.7, (&self.8, ())),
-        );
-        fields.write_fields(ser, 0, names)
-    }
-}
-
-impl<
-    A: SerializeField,
-    B: SerializeField,
-    C: SerializeField,
-    D: SerializeField,
-    E: SerializeField,
-    F: SerializeField,
-    G: SerializeField,
-    H: SerializeField,
-    I: SerializeField,
-    J: SerializeField,
-> SerializeFields for (A, B, C, D, E, F, G, H, I, J) {
-    ghost count = { 10 };
-
-    ghost fields = { λ ns p.
-        field_if 0 (name_in ns 0) (A.document p.0)
-        (field_if 1 (name_in ns 1) (B.document p.1)
-        (field_if 2 (name_in ns 2) (C.document p.2)
-        (field_if 3 (name_in ns 3) (D.document p.3)
-        (field_if 4 (name_in ns 4) (E.document p.4)
-        (field_if 5 (name_in ns 5) (F.document p.5)
-        (field_if 6 (name_in ns 6) (G.document p.6)
-        (field_if 7 (name_in ns 7) (H.document p.7)
-        (field_if 8 (name_in ns 8) (I.document p.8)
-        (field_if 9 (name_in ns 9) (J.document p.9) no_fields))))))))) };
-
-    fn len(&self) -> usize {
-        let fields = (
-            &self.0,
-            &self.1,
-            &self.2,
-            &self.3,
-            (&self.4, &self.5, &self.6, &self.7, (&self.8, (&self.9, ()))),
-        );
-        fields.written()
-    }
-
-    fn serialize_as_fields<W: Write>(&self, ser: &mut Serializer<W>, names: &[&str]) -> Result<()> {
-        let fields = (
-            &self.0,
-            &self.1,
-            &self.2,
-            &self.3,
-            (&self.4, &self.5, &self.6, &self.7, (&self.8, (&self.9, ()))),
-        );
-        fields.write_fields(ser, 0, names)
-    }
-}
-
-impl<
-    A: SerializeField,
-    B: SerializeField,
-    C: SerializeField,
-    D: SerializeField,
-    E: SerializeField,
-    F: SerializeField,
-    G: SerializeField,
-    H: SerializeField,
-    I: SerializeField,
-    J: SerializeField,
-    K: SerializeField,
-> SerializeFields for (A, B, C, D, E, F, G, H, I, J, K) {
-    ghost count = { 11 };
-
-    ghost fields = { λ ns p.
-        field_if 0 (name_in ns 0) (A.document p.0)
-        (field_if 1 (name_in ns 1) (B.document p.1)
-        (field_if 2 (name_in ns 2) (C.document p.2)
-        (field_if 3 (name_in ns 3) (D.document p.3)
-        (field_if 4 (name_in ns 4) (E.document p.4)
-        (field_if 5 (name_in ns 5) (F.document p.5)
-        (field_if 6 (name_in ns 6) (G.document p.6)
-        (field_if 7 (name_in ns 7) (H.document p.7)
-        (field_if 8 (name_in ns 8) (I.document p.8)
-        (field_if 9 (name_in ns 9) (J.document p.9)
-        (field_if 10 (name_in ns 10) (K.document p.10) no_fields)))))))))) };
-
-    fn len(&self) -> usize {
-        let fields = (
-            &self.0,
-            &self.1,
-            &self.2,
-            &self.3,
-            (
-                &self.4,
-                &self.5,
-                &self.6,
-                &self.7,
-                (&self.8, (&self.9, (&self.10, ()))),
-            ),
-        );
-        fields.written()
-    }
-
-    fn serialize_as_fields<W: Write>(&self, ser: &mut Serializer<W>, names: &[&str]) -> Result<()> {
-        let fields = (
-            &self.0,
-            &self.1,
-            &self.2,
-            &self.3,
-            (
-                &self.4,
-                &self.5,
-                &self.6,
-                &self.7,
-                (&self.8, (&self.9, (&self.10, ()))),
-            ),
-        );
-        fields.write_fields(ser, 0, names)
-    }
-}
-
-impl<
-    A: SerializeField,
-    B: SerializeField,
-    C: SerializeField,
-    D: SerializeField,
-    E: SerializeField,
-    F: SerializeField,
-    G: SerializeField,
-    H: SerializeField,
-    I: SerializeField,
-    J: SerializeField,
-    K: SerializeField,
-    L: SerializeField,
-> SerializeFields for (A, B, C, D, E, F, G, H, I, J, K, L) {
-    ghost count = { 12 };
-
-    ghost fields = { λ ns p.
-        field_if 0 (name_in ns 0) (A.document p.0)
-        (field_if 1 (name_in ns 1) (B.document p.1)
-        (field_if 2 (name_in ns 2) (C.document p.2)
-        (field_if 3 (name_in ns 3) (D.document p.3)
-        (field_if 4 (name_in ns 4) (E.document p.4)
-        (field_if 5 (name_in ns 5) (F.document p.5)
-        (field_if 6 (name_in ns 6) (G.document p.6)
-        (field_if 7 (name_in ns 7) (H.document p.7)
-        (field_if 8 (name_in ns 8) (I.document p.8)
-        (field_if 9 (name_in ns 9) (J.document p.9)
-        (field_if 10 (name_in ns 10) (K.document p.10)
-        (field_if 11 (name_in ns 11) (L.document p.11) no_fields))))))))))) };
-
-    fn len(&self) -> usize {
-        let fields = (
-            &self.0,
-            &self.1,
-            &self.2,
-            &self.3,
-            (
-                &self.4,
-                &self.5,
-                &self.6,
-                &self.7,
-                (&self.8, &self.9, &self.10, &self.11, ()),
-            ),
-        );
-        fields.written()
-    }
-
-    fn serialize_as_fields<W: Write>(&self, ser: &mut Serializer<W>, names: &[&str]) -> Result<()> {
-        let fields = (
-            &self.0,
-            &self.1,
-            &self.2,
-            &self.3,
-            (
-                &self.4,
-                &self.5,
-                &self.6,
-                &self.7,
-                (&self.8, &self.9, &self.10, &self.11, ()),
-            ),
-        );
-        fields.write_fields(ser, 0, names)
+        fields.write_fields(ser, 0, names, refusal)
     }
 }

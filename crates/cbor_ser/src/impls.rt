@@ -1,21 +1,22 @@
 //! The documents of the standard library's types but its tuples, of byte strings and of values.
 
-ghost use Rattle.std.specs.Prelude.{pos, string_bytes, encode_utf8, to_bits};
-ghost use Rattle.std.specs.Float.{binary32, binary64};
-ghost use Rattle.cbor_model.specs.Document.{null, bool, integer, bytes, text, sequence, mapping};
-ghost use Rattle.cbor_model.specs.Document.{declared, float};
-ghost use Rattle.cbor_model.specs.Raw.{single, double};
+ghost use Rattle.std.specs.Prelude.{string_bytes, encode_utf8};
+ghost use Rattle.cbor_model.specs.Document.{null, bool, bytes, text, sequence, mapping};
+ghost use Rattle.cbor_model.specs.Document.{declared};
 ghost use Rattle.cbor_model.specs.Document.{docs, doc_pairs, document_of};
-ghost use Rattle.cbor_value.specs.View.{view, float_view};
+ghost use Rattle.cbor_value.specs.View.{view};
 ghost use Rattle.cbor_ser.specs.Documents.{option_document};
 
+use crate::items::WriteDone;
 use crate::serialize::Serialize;
 use crate::serializer::Serializer;
-use cbor_io::error::Result;
+use cbor_io::error::{Error, Result};
 use cbor_io::write::Write;
+use cbor_value::Value;
 use cbor_value::bytes::{ByteArray, ByteBuf, Bytes};
-use cbor_value::{Float, Value};
 use std::collections::BTreeMap;
+
+mod numbers;
 
 impl Serialize for bool {
     ghost document = { bool };
@@ -23,111 +24,14 @@ impl Serialize for bool {
     fn serialize<W: Write>(&self, ser: &mut Serializer<W>) -> Result<()> {
         ser.serialize_bool(*self)
     }
-}
-
-impl Serialize for u8 {
-    ghost document = { λ n. integer (pos n) };
 
     #[inline(always)]
-    fn serialize<W: Write>(&self, ser: &mut Serializer<W>) -> Result<()> {
-        ser.serialize_u8(*self)
-    }
-}
-
-impl Serialize for u16 {
-    ghost document = { λ n. integer (pos n) };
-
-    #[inline(always)]
-    fn serialize<W: Write>(&self, ser: &mut Serializer<W>) -> Result<()> {
-        ser.serialize_u16(*self)
-    }
-}
-
-impl Serialize for u32 {
-    ghost document = { λ n. integer (pos n) };
-
-    #[inline(always)]
-    fn serialize<W: Write>(&self, ser: &mut Serializer<W>) -> Result<()> {
-        ser.serialize_u32(*self)
-    }
-}
-
-impl Serialize for u64 {
-    ghost document = { λ n. integer (pos n) };
-
-    #[inline(always)]
-    fn serialize<W: Write>(&self, ser: &mut Serializer<W>) -> Result<()> {
-        ser.serialize_u64(*self)
-    }
-}
-
-impl Serialize for u128 {
-    ghost document = { λ n. integer (pos n) };
-
-    fn serialize<W: Write>(&self, ser: &mut Serializer<W>) -> Result<()> {
-        ser.serialize_u128(*self)
-    }
-}
-
-impl Serialize for usize {
-    ghost document = { λ n. integer (pos n) };
-
-    #[inline(always)]
-    fn serialize<W: Write>(&self, ser: &mut Serializer<W>) -> Result<()> {
-        ser.serialize_u64(*self as u64)
-    }
-}
-
-impl Serialize for i8 {
-    ghost document = { λ n. integer n };
-
-    #[inline(always)]
-    fn serialize<W: Write>(&self, ser: &mut Serializer<W>) -> Result<()> {
-        ser.serialize_i8(*self)
-    }
-}
-
-impl Serialize for i16 {
-    ghost document = { λ n. integer n };
-
-    #[inline(always)]
-    fn serialize<W: Write>(&self, ser: &mut Serializer<W>) -> Result<()> {
-        ser.serialize_i16(*self)
-    }
-}
-
-impl Serialize for i32 {
-    ghost document = { λ n. integer n };
-
-    #[inline(always)]
-    fn serialize<W: Write>(&self, ser: &mut Serializer<W>) -> Result<()> {
-        ser.serialize_i32(*self)
-    }
-}
-
-impl Serialize for i64 {
-    ghost document = { λ n. integer n };
-
-    #[inline(always)]
-    fn serialize<W: Write>(&self, ser: &mut Serializer<W>) -> Result<()> {
-        ser.serialize_i64(*self)
-    }
-}
-
-impl Serialize for i128 {
-    ghost document = { λ n. integer n };
-
-    fn serialize<W: Write>(&self, ser: &mut Serializer<W>) -> Result<()> {
-        ser.serialize_i128(*self)
-    }
-}
-
-impl Serialize for isize {
-    ghost document = { λ n. integer n };
-
-    #[inline(always)]
-    fn serialize<W: Write>(&self, ser: &mut Serializer<W>) -> Result<()> {
-        ser.serialize_i64(*self as i64)
+    fn serialize_step<W: Write>(
+        &self,
+        ser: &mut Serializer<W>,
+        refusal: &mut Option<Error>,
+    ) -> WriteDone {
+        ser.bool_step(*self, refusal)
     }
 }
 
@@ -137,6 +41,16 @@ impl Serialize for char {
     fn serialize<W: Write>(&self, ser: &mut Serializer<W>) -> Result<()> {
         ser.serialize_char(*self)
     }
+
+    #[inline(always)]
+    fn serialize_step<W: Write>(
+        &self,
+        ser: &mut Serializer<W>,
+        refusal: &mut Option<Error>,
+    ) -> WriteDone {
+        let mut bytes = [0; 4];
+        ser.text_step(self.encode_utf8(&mut bytes), refusal)
+    }
 }
 
 impl Serialize for String {
@@ -145,6 +59,15 @@ impl Serialize for String {
     fn serialize<W: Write>(&self, ser: &mut Serializer<W>) -> Result<()> {
         ser.serialize_str(self.as_str())
     }
+
+    #[inline(always)]
+    fn serialize_step<W: Write>(
+        &self,
+        ser: &mut Serializer<W>,
+        refusal: &mut Option<Error>,
+    ) -> WriteDone {
+        ser.text_step(self.as_str(), refusal)
+    }
 }
 
 impl Serialize for &str {
@@ -152,6 +75,15 @@ impl Serialize for &str {
 
     fn serialize<W: Write>(&self, ser: &mut Serializer<W>) -> Result<()> {
         ser.serialize_str(*self)
+    }
+
+    #[inline(always)]
+    fn serialize_step<W: Write>(
+        &self,
+        ser: &mut Serializer<W>,
+        refusal: &mut Option<Error>,
+    ) -> WriteDone {
+        ser.text_step(*self, refusal)
     }
 }
 
@@ -162,6 +94,15 @@ impl Serialize for &[u8] {
     fn serialize<W: Write>(&self, ser: &mut Serializer<W>) -> Result<()> {
         ser.serialize_bytes(*self)
     }
+
+    #[inline(always)]
+    fn serialize_step<W: Write>(
+        &self,
+        ser: &mut Serializer<W>,
+        refusal: &mut Option<Error>,
+    ) -> WriteDone {
+        ser.bytes_step(*self, refusal)
+    }
 }
 
 impl Serialize for Bytes<'_> {
@@ -169,6 +110,15 @@ impl Serialize for Bytes<'_> {
 
     fn serialize<W: Write>(&self, ser: &mut Serializer<W>) -> Result<()> {
         ser.serialize_bytes(self.0)
+    }
+
+    #[inline(always)]
+    fn serialize_step<W: Write>(
+        &self,
+        ser: &mut Serializer<W>,
+        refusal: &mut Option<Error>,
+    ) -> WriteDone {
+        ser.bytes_step(self.0, refusal)
     }
 }
 
@@ -178,6 +128,15 @@ impl Serialize for ByteBuf {
     fn serialize<W: Write>(&self, ser: &mut Serializer<W>) -> Result<()> {
         ser.serialize_bytes(self.0.as_slice())
     }
+
+    #[inline(always)]
+    fn serialize_step<W: Write>(
+        &self,
+        ser: &mut Serializer<W>,
+        refusal: &mut Option<Error>,
+    ) -> WriteDone {
+        ser.bytes_step(self.0.as_slice(), refusal)
+    }
 }
 
 impl<const N: usize> Serialize for ByteArray<N> {
@@ -186,6 +145,15 @@ impl<const N: usize> Serialize for ByteArray<N> {
     fn serialize<W: Write>(&self, ser: &mut Serializer<W>) -> Result<()> {
         ser.serialize_bytes(self.0.as_slice())
     }
+
+    #[inline(always)]
+    fn serialize_step<W: Write>(
+        &self,
+        ser: &mut Serializer<W>,
+        refusal: &mut Option<Error>,
+    ) -> WriteDone {
+        ser.bytes_step(self.0.as_slice(), refusal)
+    }
 }
 
 impl Serialize for () {
@@ -193,32 +161,6 @@ impl Serialize for () {
 
     fn serialize<W: Write>(&self, ser: &mut Serializer<W>) -> Result<()> {
         ser.serialize_unit()
-    }
-}
-
-impl Serialize for Float {
-    ghost document = { λ f. document_of (float_view f) };
-
-    fn serialize<W: Write>(&self, ser: &mut Serializer<W>) -> Result<()> {
-        ser.serialize_float(*self)
-    }
-}
-
-/// In its 32 bits. A NaN is the quiet NaN `fa7fc00000`.
-impl Serialize for f32 {
-    ghost document = { λ x. float single (to_bits binary32 x) };
-
-    fn serialize<W: Write>(&self, ser: &mut Serializer<W>) -> Result<()> {
-        ser.serialize_f32(*self)
-    }
-}
-
-/// In its 64 bits, also where fewer would hold it. A NaN is the quiet NaN `fb7ff8000000000000`.
-impl Serialize for f64 {
-    ghost document = { λ x. float double (to_bits binary64 x) };
-
-    fn serialize<W: Write>(&self, ser: &mut Serializer<W>) -> Result<()> {
-        ser.serialize_f64(*self)
     }
 }
 
@@ -240,6 +182,18 @@ impl<T: Serialize> Serialize for Option<T> {
             None => ser.serialize_none(),
         }
     }
+
+    #[inline(always)]
+    fn serialize_step<W: Write>(
+        &self,
+        ser: &mut Serializer<W>,
+        refusal: &mut Option<Error>,
+    ) -> WriteDone {
+        match self {
+            Some(value) => value.serialize_step(ser, refusal),
+            None => ser.null_step(refusal),
+        }
+    }
 }
 
 /// As what it refers to, so that what is kept elsewhere is written without a copy.
@@ -249,6 +203,15 @@ impl<'a, T: Serialize> Serialize for &'a T {
     fn serialize<W: Write>(&self, ser: &mut Serializer<W>) -> Result<()> {
         T::serialize(*self, ser)
     }
+
+    #[inline(always)]
+    fn serialize_step<W: Write>(
+        &self,
+        ser: &mut Serializer<W>,
+        refusal: &mut Option<Error>,
+    ) -> WriteDone {
+        T::serialize_step(*self, ser, refusal)
+    }
 }
 
 /// As what it holds.
@@ -257,6 +220,15 @@ impl<T: Serialize> Serialize for Box<T> {
 
     fn serialize<W: Write>(&self, ser: &mut Serializer<W>) -> Result<()> {
         T::serialize(&**self, ser)
+    }
+
+    #[inline(always)]
+    fn serialize_step<W: Write>(
+        &self,
+        ser: &mut Serializer<W>,
+        refusal: &mut Option<Error>,
+    ) -> WriteDone {
+        T::serialize_step(&**self, ser, refusal)
     }
 }
 
@@ -283,6 +255,14 @@ impl<T: Serialize> Serialize for Vec<T> {
 
     fn serialize<W: Write>(&self, ser: &mut Serializer<W>) -> Result<()> {
         ser.write_sequence(self)
+    }
+
+    fn serialize_step<W: Write>(
+        &self,
+        ser: &mut Serializer<W>,
+        refusal: &mut Option<Error>,
+    ) -> WriteDone {
+        ser.sequence_step(self, refusal)
     }
 }
 

@@ -28,12 +28,12 @@ use cbor_io::write::Write;
 use cbor_value::{Float, Map, Value};
 use std::alloc::Global;
 
-/// A step was refused.
-#[derive(Clone, Copy)]
-pub(crate) struct WriteRefused;
+/// A step was refused, and its error left with its caller.
+#[derive(Clone, Copy, Debug)]
+pub struct WriteRefused;
 
 /// What a step returns.
-pub(crate) type WriteDone = std::result::Result<(), WriteRefused>;
+pub type WriteDone = std::result::Result<(), WriteRefused>;
 
 /// The answer of a call whose steps left this refusal.
 pub(crate) fn answer(done: WriteDone, refusal: Option<Error>) -> Result<()>
@@ -54,8 +54,8 @@ pub(crate) fn not_storable(alloc: Global) -> Error
     Error::message(alloc, "The number can't be stored in CBOR")
 }
 
-// Appends a piece.
-fn put<W: Write>(writer: &mut W, refusal: &mut Option<Error>, piece: &[u8]) -> WriteDone
+/// Appends a piece.
+pub(crate) fn put<W: Write>(writer: &mut W, refusal: &mut Option<Error>, piece: &[u8]) -> WriteDone
     ensures written { Wrote (W.written writer.old) piece.now (W.written writer.new) result }
     ensures same_references { W.references writer.new ≡ W.references writer.old }
     ensures same_capacity { W.capacity writer.new ≡ W.capacity writer.old }
@@ -156,6 +156,7 @@ pub(crate) fn put_string<W: Write>(
 }
 
 /// Appends a float in its width, with its bits as they are.
+#[inline(always)]
 #[tactic(auto, unfolding(cbor_model::specs::Canonical::canon, cbor_model::specs::Canonical::canonical, cbor_model::specs::Spelling::spell))]
 pub(crate) fn put_float<W: Write>(
     writer: &mut W,

@@ -38,6 +38,7 @@ pub use described::{NamedFields, SerializeVariant};
 pub use field::{OptionalField, SerializeField};
 pub use fields::SerializeFields;
 pub use impls::Items;
+pub use items::{WriteDone, WriteRefused};
 pub use schema::{PartsDocument, VariantDocument, WrittenBy};
 pub use serialize::Serialize;
 pub use serializer::Serializer;

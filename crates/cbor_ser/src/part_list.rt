@@ -8,7 +8,7 @@ ghost use Rattle.cbor_model.specs.Document.{no_docs, doc, no_fields, field_count
 ghost use Rattle.cbor_model.specs.Parts.{items, ending};
 ghost use Rattle.cbor_model.specs.Parts as part;
 ghost use Rattle.cbor_ser.specs.PartLists.{field_if};
-ghost use Rattle.cbor_ser.specs.Serialized.{Serialized, Stopped};
+ghost use Rattle.cbor_ser.specs.Serialized.{Serialized, Stepped, Stopped};
 
 use crate::field::SerializeField;
 use crate::items::{WriteDone, WriteRefused, answer};
@@ -43,12 +43,13 @@ pub(crate) trait WriteFields {
         ser: &mut Serializer<W>,
         number: u32,
         names: &[&str],
-    ) -> Result<()>
+        refusal: &mut Option<Error>,
+    ) -> WriteDone
         requires as_many { length names.now ≡ slots }
         requires numbers { number + length names.now < 2 ^ 32 }
-        ensures { Serialized W.written W.refuses W.references W.capacity ser.old
+        ensures { Stepped W.written W.refuses W.references W.capacity ser.old
             (part.fields (fields_from number (map (λ n. n.now) names.now) self.now))
-            ser.new result };
+            ser.new result refusal.new };
 }
 
 impl WriteFields for () {
@@ -65,7 +66,8 @@ impl WriteFields for () {
         _ser: &mut Serializer<W>,
         _number: u32,
         _names: &[&str],
-    ) -> Result<()> {
+        _refusal: &mut Option<Error>,
+    ) -> WriteDone {
         Ok(())
     }
 }
@@ -92,12 +94,13 @@ impl<'a, A: SerializeField, F: WriteFields> WriteFields for (&'a A, F) {
         ser: &mut Serializer<W>,
         number: u32,
         names: &[&str],
-    ) -> Result<()> {
+        refusal: &mut Option<Error>,
+    ) -> WriteDone {
         if !self.0.is_written() {
-            return self.1.write_fields(ser, number + 1, &names[1..]);
+            return self.1.write_fields(ser, number + 1, &names[1..], refusal);
         }
-        self.0.serialize_as_field(ser, number, names[0])?;
-        self.1.write_fields(ser, number + 1, &names[1..])
+        self.0.serialize_as_field(ser, number, names[0], refusal)?;
+        self.1.write_fields(ser, number + 1, &names[1..], refusal)
     }
 }
 
@@ -115,8 +118,9 @@ impl<'a, F: WriteFields> WriteFields for &'a F {
         ser: &mut Serializer<W>,
         number: u32,
         names: &[&str],
-    ) -> Result<()> {
-        (**self).write_fields(ser, number, names)
+        refusal: &mut Option<Error>,
+    ) -> WriteDone {
+        (**self).write_fields(ser, number, names, refusal)
     }
 }
 
@@ -151,9 +155,10 @@ impl<
         ser: &mut Serializer<W>,
         number: u32,
         names: &[&str],
-    ) -> Result<()> {
+        refusal: &mut Option<Error>,
+    ) -> WriteDone {
         let fields = (self.0, (self.1, (self.2, (self.3, &self.4))));
-        fields.write_fields(ser, number, names)
+        fields.write_fields(ser, number, names, refusal)
     }
 }
 
@@ -229,13 +234,8 @@ impl<'a, A: Serialize, F: WriteItems> WriteItems for (&'a A, F) {
         ser: &mut Serializer<W>,
         refusal: &mut Option<Error>,
     ) -> WriteDone {
-        match self.0.serialize(ser) {
-            Ok(()) => self.1.write_items(ser, refusal),
-            Err(error) => {
-                *refusal = Some(error);
-                Err(WriteRefused)
-            }
-        }
+        self.0.serialize_step(ser, refusal)?;
+        self.1.write_items(ser, refusal)
     }
 }
 

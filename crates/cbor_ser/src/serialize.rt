@@ -1,7 +1,8 @@
 //! The trait of the types that are written.
 
+use crate::items::{WriteDone, WriteRefused};
 use crate::serializer::Serializer;
-use cbor_io::error::Result;
+use cbor_io::error::{Error, Result};
 use cbor_io::write::Write;
 
 /// A type with a document, which is what a value of it is written as.
@@ -54,7 +55,8 @@ use cbor_io::write::Write;
 /// ```
 ///
 /// A type that contains itself says its document as a fold over its values, of which one level is
-/// given, with the documents of its parts in their places; it writes them by their own type:
+/// given, with the documents of its parts in their places; it writes them by their own type, and its
+/// `serialize` is in a `#[cycle]`, since writing the parts leads back to it:
 ///
 /// ```rust
 /// enum Tree { Leaf(u8), Node(Vec<Tree>) }
@@ -65,6 +67,7 @@ use cbor_io::write::Write;
 ///         | Tree-F.Node parts ↦ sequence declared (docs (λ d. d) parts.items) ])
 ///     };
 ///
+///     #[cycle(serialize)]
 ///     fn serialize<W: Write>(&self, ser: &mut Serializer<W>) -> Result<()> {
 ///         match self {
 ///             Tree::Leaf(n) => n.serialize(ser),
@@ -94,7 +97,7 @@ use cbor_io::write::Write;
 pub trait Serialize {
     ghost use Rattle.cbor_model.specs.Document.{Doc};
     ghost use Rattle.cbor_model.specs.Parts.{item};
-    ghost use Rattle.cbor_ser.specs.Serialized.{Serialized};
+    ghost use Rattle.cbor_ser.specs.Serialized.{Serialized, Stepped};
 
     // What a value is written as: its document.
     ghost document: { Self → Doc };
@@ -105,4 +108,23 @@ pub trait Serialize {
     fn serialize<W: Write>(&self, ser: &mut Serializer<W>) -> Result<()>
         ensures { Serialized W.written W.refuses W.references W.capacity ser.old
             (item (document self.now)) ser.new result };
+
+    /// Appends the document as `serialize` does, and leaves an error in `refusal`: an `Error` is
+    /// large, and what writes many values would move it at each. No type has to say it.
+    fn serialize_step<W: Write>(
+        &self,
+        ser: &mut Serializer<W>,
+        refusal: &mut Option<Error>,
+    ) -> WriteDone
+        ensures { Stepped W.written W.refuses W.references W.capacity ser.old
+            (item (document self.now)) ser.new result refusal.new }
+    {
+        match self.serialize(ser) {
+            Ok(()) => Ok(()),
+            Err(error) => {
+                *refusal = Some(error);
+                Err(WriteRefused)
+            }
+        }
+    }
 }

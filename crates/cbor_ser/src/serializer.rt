@@ -1,6 +1,6 @@
 //! Writing items one by one.
 
-ghost use Rattle.std.specs.Prelude.{◌≡◌, ◌++◌, ℕ, List, length, pos, true, false, encode_utf8};
+ghost use Rattle.std.specs.Prelude.{◌≡◌, ℕ, List, pos, true, false, encode_utf8};
 ghost use Rattle.std.specs.Prelude.{IsErrAnd, to_bits};
 ghost use Rattle.std.specs.Float.{binary32, binary64};
 ghost use Rattle.cbor_model.specs.Head.{short};
@@ -17,9 +17,7 @@ ghost use Rattle.cbor_ser.specs.Serialized.{writer_of, settings_of, Serialized, 
 ghost use Rattle.cbor_ser.specs.Narrowed.{narrowed};
 ghost use Rattle.cbor_ser.specs.Written.{SaysUnstorable};
 
-use crate::items::{
-    answer, not_storable, put_float, put_integer, put_string, put_value, write_head,
-};
+use crate::items::{answer, not_storable, put_integer, put_value, write_head};
 use cbor_io::error::Result;
 use cbor_io::head::Major;
 use cbor_io::write::Write;
@@ -29,6 +27,7 @@ use std::fmt;
 
 mod compound;
 mod list;
+mod step;
 mod value;
 
 /// How names, enums and floats are written.
@@ -335,9 +334,8 @@ impl<W: Write> Serializer<W> {
         ensures { Serialized W.written W.refuses W.references W.capacity self.old
             (item (document_of (float_view v))) self.new result }
     {
-        let float = as_set(self.settings.shortest, v);
         let mut refusal = None;
-        let done = put_float(&mut self.writer, &mut refusal, float);
+        let done = self.float_step(v, &mut refusal);
         answer(done, refusal)
     }
 
@@ -370,7 +368,9 @@ impl<W: Write> Serializer<W> {
         ensures { Serialized W.written W.refuses W.references W.capacity self.old
             (item (text v.now)) self.new result }
     {
-        self.write_string(Major::TextString, v.as_bytes())
+        let mut refusal = None;
+        let done = self.text_step(v, &mut refusal);
+        answer(done, refusal)
     }
 
     /// Appends a character as the text of it alone.
@@ -393,7 +393,9 @@ impl<W: Write> Serializer<W> {
         ensures { Serialized W.written W.refuses W.references W.capacity self.old
             (item (bytes v.now)) self.new result }
     {
-        self.write_string(Major::ByteString, v)
+        let mut refusal = None;
+        let done = self.bytes_step(v, &mut refusal);
+        answer(done, refusal)
     }
 
     // Appends a value's canonical encoding, but its floats as they are set to be.
@@ -406,17 +408,6 @@ impl<W: Write> Serializer<W> {
         }
         let mut refusal = None;
         let done = put_value(self.alloc, &mut self.writer, &mut refusal, v);
-        answer(done, refusal)
-    }
-
-    // Appends the head of a string, and then what it holds.
-    fn write_string(&mut self, major: Major, content: &[u8]) -> Result<()>
-        ensures { (part : Part) → Spells self.old.settings part
-            (short (major_number major) (length content.now) ++ content.now) →
-            Serialized W.written W.refuses W.references W.capacity self.old part self.new result }
-    {
-        let mut refusal = None;
-        let done = put_string(&mut self.writer, &mut refusal, major, content);
         answer(done, refusal)
     }
 

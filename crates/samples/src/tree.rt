@@ -29,6 +29,7 @@ impl Serialize for Tree {
       | Tree-F.Node parts ↦ sequence declared (docs (λ d. d) parts.items)
     ]) };
 
+    #[cycle(serialize)]
     fn serialize<W: Write>(&self, ser: &mut Serializer<W>) -> Result<()> {
         match self {
             Tree::Leaf(n) => n.serialize(ser),

@@ -3,11 +3,12 @@
 ghost use Rattle.std.specs.Prelude.{Some};
 ghost use Rattle.cbor_model.specs.Document.{declared, sequence, mapping, docs, doc_pairs};
 ghost use Rattle.cbor_model.specs.Parts.{item, items, pairs, ending};
-ghost use Rattle.cbor_ser.specs.Serialized.{Serialized};
+ghost use Rattle.cbor_ser.specs.Serialized.{Serialized, Stepped};
 
 use super::Serializer;
+use crate::items::{WriteDone, answer};
 use crate::serialize::Serialize;
-use cbor_io::error::Result;
+use cbor_io::error::{Error, Result};
 use cbor_io::write::Write;
 use std::collections::BTreeMap;
 
@@ -17,17 +18,31 @@ impl<W: Write> Serializer<W> {
         ensures { Serialized W.written W.refuses W.references W.capacity self.old
             (item (sequence declared (docs T.document list.now))) self.new result }
     {
-        self.write_array_head(Some(list.len()))?;
-        self.write_items(list)
+        let mut refusal = None;
+        let done = self.sequence_step(list, &mut refusal);
+        answer(done, refusal)
+    }
+
+    // The same as a step.
+    pub(crate) fn sequence_step<T: Serialize>(
+        &mut self,
+        list: &[T],
+        refusal: &mut Option<Error>,
+    ) -> WriteDone
+        ensures { Stepped W.written W.refuses W.references W.capacity self.old
+            (item (sequence declared (docs T.document list.now))) self.new result refusal.new }
+    {
+        self.array_step(list.len(), refusal)?;
+        self.items_step(list, refusal)
     }
 
     // Appends the items of a list, one after the other.
-    fn write_items<T: Serialize>(&mut self, list: &[T]) -> Result<()>
-        ensures { Serialized W.written W.refuses W.references W.capacity self.old
-            (items (docs T.document list.now) (ending (Some 0))) self.new result }
+    fn items_step<T: Serialize>(&mut self, list: &[T], refusal: &mut Option<Error>) -> WriteDone
+        ensures { Stepped W.written W.refuses W.references W.capacity self.old
+            (items (docs T.document list.now) (ending (Some 0))) self.new result refusal.new }
     {
         for one in list {
-            one.serialize(self)?;
+            one.serialize_step(self, refusal)?;
         }
         Ok(())
     }
@@ -41,22 +56,38 @@ impl<W: Write> Serializer<W> {
             (item (mapping declared (doc_pairs K.document V.document map.now.entries)))
             self.new result }
     {
-        self.write_map_head(Some(map.len()))?;
-        self.write_entries(map)
+        let mut refusal = None;
+        let done = self.mapping_step(map, &mut refusal);
+        answer(done, refusal)
+    }
+
+    // The same as a step.
+    fn mapping_step<K: Serialize + Ord, V: Serialize>(
+        &mut self,
+        map: &BTreeMap<K, V>,
+        refusal: &mut Option<Error>,
+    ) -> WriteDone
+        ensures { Stepped W.written W.refuses W.references W.capacity self.old
+            (item (mapping declared (doc_pairs K.document V.document map.now.entries)))
+            self.new result refusal.new }
+    {
+        self.map_step(map.len(), refusal)?;
+        self.entries_step(map, refusal)
     }
 
     // Appends keys and values, one after the other.
-    fn write_entries<K: Serialize + Ord, V: Serialize>(
+    fn entries_step<K: Serialize + Ord, V: Serialize>(
         &mut self,
         map: &BTreeMap<K, V>,
-    ) -> Result<()>
-        ensures { Serialized W.written W.refuses W.references W.capacity self.old
+        refusal: &mut Option<Error>,
+    ) -> WriteDone
+        ensures { Stepped W.written W.refuses W.references W.capacity self.old
             (pairs (doc_pairs K.document V.document map.now.entries) (ending (Some 0)))
-            self.new result }
+            self.new result refusal.new }
     {
         for (key, value) in map.iter() {
-            key.serialize(self)?;
-            value.serialize(self)?;
+            key.serialize_step(self, refusal)?;
+            value.serialize_step(self, refusal)?;
         }
         Ok(())
     }

@@ -1,4 +1,4 @@
-use Rattle.cbor_ser.proofs.WriteSteps.{by_parts, and_then, stops, same}
+use Rattle.cbor_ser.proofs.WriteSteps.{answered, by_parts, and_then, stops, same}
 use Rattle.cbor_ser.proofs.Named.{variant_head_of}
 use Rattle.cbor_ser.proofs.described.NamedFieldsSerializeVariant.serialize_variant.Goals as goal
 
@@ -10,4 +10,4 @@ returns-in_err-write_struct_head g c =
 pub returns : goal.returns
 returns g c =
     let fs = g.F.SerializeFields.fields g.N.FieldNames.names c.args.self.now.1 in
-    by_parts (same (variant_head_of c.args.number c.args.name.now fs c.len.result (c.len.ensures g.N.FieldNames.names)) (and_then c.in_ok-write_struct_head.ensures.ok (rw c.names.ensures.names at c.serialize_as_fields.ensures)))
+    by_parts (same (variant_head_of c.args.number c.args.name.now fs c.len.result (c.len.ensures g.N.FieldNames.names)) (and_then c.in_ok-write_struct_head.ensures.ok (rw c.names.ensures.names at (answered c.answer.ensures.ok c.answer.ensures.err c.serialize_as_fields-done.ensures))))
