@@ -49,10 +49,12 @@ pub trait Readable: Sized + Drop {
     ghost passes_over: { Bool } = { false };
 
     /// Reads the item at the front, if the bytes at hand show that it is one that the type reads.
-    /// None where they don't, and then nothing is taken: `deserialize` reads the item or refuses it.
+    /// None where they don't, or where memory is wanting, and then nothing is taken: `deserialize`
+    /// reads the item or refuses it.
     ///
-    /// Lists and tuples call it first for each item, since it answers without room for an error. A
-    /// type of one's own needs none: it is None unless a type says otherwise.
+    /// Lists and tuples call it first for each item, and described structs for each field, since it
+    /// answers without room for an error. A type of one's own needs none: it is None unless a type
+    /// says otherwise.
     #[inline(always)]
     fn at_hand<R: Source>(de: &mut Deserializer<R>) -> Option<Self>
         ensures read { call.TakesAtHand R.source R.refusals

@@ -5,5 +5,6 @@ pub mod Contents
 pub mod MemoryAsked
 pub mod Lending
 pub mod ByteStrings
+pub mod ShortTexts
 pub mod Characters
 pub mod Identifiers

@@ -1,7 +1,7 @@
 //! Strings: texts, and byte strings (RFC 7049, section 2.1, major types 2 and 3; in chunks, section
 //! 2.2.2).
 
-ghost use Rattle.std.specs.Prelude.{◌≡◌, ◌≤◌, length, IfOk, IfErr, OnOk};
+ghost use Rattle.std.specs.Prelude.{◌≡◌, ◌≤◌, length, IfOk, IfErr, OnOk, OnSome};
 ghost use Rattle.std.specs.String.{string_bytes};
 ghost use Rattle.cbor_model.specs.Readable.{PassesTags, IsText};
 ghost use Rattle.cbor_io.specs.Error.{code_of};
@@ -175,6 +175,26 @@ fn string_slow<R: Source>(decoder: &mut Decoder<R>) -> Done<Option<String>>
             Err(refused) => Err(refused),
         },
     }
+}
+
+/// Reads a text of up to 23 bytes that is at hand, without tags, to memory of its own. None where
+/// another item comes, too few bytes are at hand, or memory is wanting; then nothing is taken.
+#[inline(always)]
+pub fn text_at_hand<R: Source>(decoder: &mut Decoder<R>) -> Option<String>
+    ensures read { call.TakesAtHand R.source R.refusals
+        (PassesTags (λ r s. IsText r (string_bytes s))) decoder.old decoder.new result }
+    ensures taken { OnSome result (step.Advances R.source decoder.old decoder.new) }
+    ensures settings { SameSettings decoder.old decoder.new }
+{
+    let (head, behind) = decoder.source.ahead().split_first()?;
+    let n = match *head {
+        head @ 0x60..=0x77 => usize::from(head - 0x60),
+        _ => return None,
+    };
+    let text = from_utf8(behind.get(..n)?).ok()?;
+    let text = String::from_str(decoder.alloc, text).ok()?;
+    decoder.source.advance(1 + n);
+    Some(text)
 }
 
 // Reads a string; an item of another kind is `Why::Other`.

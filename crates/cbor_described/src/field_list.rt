@@ -16,8 +16,8 @@ ghost use Rattle.cbor_de.specs.Calls as call;
 
 use cbor_de::steps::{end_map, leave_to, map_head};
 use cbor_de::{
-    Deserialize, Deserializer, Field, FieldType, IgnoredAny, Read, duplicate_field, missing_field,
-    next_key,
+    Deserialize, Deserializer, Field, FieldType, IgnoredAny, Read, Readable, duplicate_field,
+    missing_field, next_key,
 };
 use cbor_io::error::Result;
 use std::alloc::Global;
@@ -291,6 +291,10 @@ where
 {
     if slot.is_some() {
         return Err(duplicate_field(de.alloc(), name));
+    }
+    if let Some(value) = <A::Of as Readable>::at_hand(de) {
+        *slot = Some(A::given(value));
+        return Ok(());
     }
     match <A::Of as Deserialize<'de, R>>::deserialize(de) {
         Ok(value) => {

@@ -6,3 +6,5 @@ pub use Rattle.cbor_de.proofs.Faults.{where_map}
 pub use Rattle.cbor_decode.proofs.facts.Readings.{along, value_seen}
 -- an item that is read whatever it is, and isn't there, is no item at all
 pub use Rattle.cbor_de.proofs.FieldNames.{no_item}
+-- what is read behind a call that took nothing
+pub use Rattle.cbor_de.proofs.AtHand.{read_here}

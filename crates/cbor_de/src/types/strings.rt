@@ -3,9 +3,9 @@
 use crate::de::Deserializer;
 use crate::deserialize::{Deserialize, DeserializeOwned, Readable};
 use cbor_decode_as::borrowed::EitherStr;
-use cbor_decode_as::string::{NO_STRING, read_string};
+use cbor_decode_as::string::{NO_STRING, read_string, text_at_hand};
 use cbor_io::error::{Error, Result};
-use cbor_read::{EitherLifetime, Read};
+use cbor_read::{EitherLifetime, Read, Source};
 
 impl Readable for String {
     ghost use Rattle.std.specs.Prelude.{true};
@@ -18,6 +18,11 @@ impl Readable for String {
     ghost wrong_forms = { never };
 
     ghost passes_over = { true };
+
+    #[inline(always)]
+    fn at_hand<R: Source>(de: &mut Deserializer<R>) -> Option<String> {
+        text_at_hand(&mut de.decoder)
+    }
 }
 
 impl<'de, R: Read<'de>> Deserialize<'de, R> for String {

@@ -7,8 +7,8 @@ use Rattle.samples.specs.declared.tree.Tree.{Tree, fold-Tree, Node, the_lemmas}
 use Rattle.samples.specs.declared.tree.Tree.TheOpen.{Tree-F}
 use Rattle.samples.proofs.tree.TreeSerialize.+serialize.Goals as goal
 
-pub returns-in-Node : goal.returns-in-Node
-returns-in-Node g t c =
+pub serialize-returns-in-Node : goal.serialize-returns-in-Node
+serialize-returns-in-Node g t c =
     let step : Tree-F Doc → Doc = elim [ Tree-F.Leaf n ↦ integer n | Tree-F.Node parts ↦ sequence declared (docs (λ d. d) parts.items) ] in
     let document : Tree → Doc = fold-Tree Doc step in
     let parts = c.in-Node.parts in
