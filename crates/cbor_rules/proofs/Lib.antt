@@ -3,6 +3,8 @@ pub mod Walked
 pub mod Told
 pub mod Kept
 pub mod Reading
+pub mod Fronts
+pub mod ItemsTaken
 pub mod Canonical
 pub mod CanonicalKeys
 pub mod Unique

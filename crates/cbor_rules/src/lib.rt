@@ -7,7 +7,9 @@
 mod answers;
 mod canonical_key;
 mod from;
+mod front;
 mod heads;
+mod items;
 mod keys;
 mod laws;
 mod settings;
@@ -16,6 +18,7 @@ mod walk;
 
 pub use answers::{Departure, Refusal};
 pub use from::{from_slice_with, from_slice_with_tags};
+pub use items::RuledItems;
 pub use laws::{
     canonical_accepted_is_written, canonical_written_is_accepted, ctap2_accepted_is_written,
     ctap2_written_is_accepted, dcbor_accepted_is_written, dcbor_written_is_accepted,

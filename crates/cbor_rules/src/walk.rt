@@ -5,7 +5,7 @@
 //! compared with the one before it by the bytes of both.
 
 ghost use Rattle.std.specs.Prelude.{◌≡◌, ◌&&◌, ◌-◌, ◌/◌, ◌%◌, ◌<◌, ◌≤◌, [], length, take, IsTrue};
-ghost use Rattle.std.specs.Prelude.{IfErr, IfOk, MatchOption, OnErr, if◌then◌else◌, true};
+ghost use Rattle.std.specs.Prelude.{IfErr, IfOk, IfSome, MatchOption, OnErr, if◌then◌else◌, true};
 ghost use Rattle.cbor_model.specs.Raw.{Raw, IsWellFormed, half, single, double, undefined_item};
 ghost use Rattle.cbor_model.specs.Spelling.{spell};
 ghost use Rattle.cbor_rules.specs.Features.{simple_item};
@@ -50,6 +50,8 @@ pub(crate) fn first_departure(
 ) -> Result<Option<Departure>>
     ensures first { (r : Raw) → IsWellFormed r → spell r ≡ bytes.now
         → IfOk result (λ departure. departure ≡ first_departure (under rules tags.now) r) }
+    ensures within { IfOk result
+        (λ departure. IfSome departure (λ d. d.offset ≤ length bytes.now)) }
     ensures memory { IfErr result IsOutOfMemory }
     ensures unique { OnErr result (is_unique rules.keys ≡ true) }
 {

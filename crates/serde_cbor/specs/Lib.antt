@@ -65,6 +65,7 @@ pub use Rattle.cbor_strict.specs.StrictAnswers
 pub use Rattle.cbor_rules.specs.Features
 pub use Rattle.cbor_rules.specs.Rules
 pub use Rattle.cbor_rules.specs.Answers
+pub use Rattle.cbor_rules.specs.NextItem
 pub use Rattle.cbor_rules.specs.Presets
 pub use Rattle.cbor_decode_as.specs.Accesses
 pub use Rattle.cbor_decode_as.specs.Begins

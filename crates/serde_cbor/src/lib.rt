@@ -11,7 +11,8 @@
 //! integers are these.
 //!
 //! - [`de`], [`stream`], [`strict`]: reading; [`ser`]: writing
-//! - [`rules`]: reading by rules of your own, each a switch, or by the form that a name stands for
+//! - [`rules`]: reading by rules of your own, each a switch, or by the form that a name stands for:
+//!   a whole slice, or items one after the other
 //! - [`value`]: `Value`, `Map`, `Float`, and the way between a value and a type
 //! - [`parts`]: the description by which a struct or an enum of yours is read and written;
 //!   [`round_trip`]: the law that it is read back

@@ -1,8 +1,11 @@
 //! What one row of a test asks. These promise nothing, so that a test of many rows carries no facts
 //! from one to the next.
 
+use cbor_de::{Deserialize, IgnoredAny, SliceRead};
 use cbor_io::error::ErrorCode;
-use cbor_rules::{Departure, Refusal, Rule, Rules, from_slice_with, from_slice_with_tags};
+use cbor_rules::{
+    Departure, Refusal, Rule, RuledItems, Rules, from_slice_with, from_slice_with_tags,
+};
 use cbor_strict::from_slice_canonical;
 use cbor_value::Value;
 use std::alloc::Global;
@@ -101,4 +104,80 @@ pub fn agrees(rt: &impl Abort, alloc: Global, bytes: &[u8]) -> Done {
     let strictly = strictly_departs_at(alloc, bytes)?;
     assert!(rt; by_rules == strictly);
     Ok(())
+}
+
+/// The next item is read so, and ends at this offset.
+pub fn gives<'a, T: Deserialize<'a, SliceRead<'a>> + PartialEq>(
+    rt: &impl Abort,
+    items: &mut RuledItems<'a, '_>,
+    expected: T,
+    end: usize,
+) -> Done {
+    match items.next_item::<T>() {
+        Ok(Some(item)) => {
+            assert!(rt; item == expected);
+            assert_eq!(rt; items.byte_offset(), end);
+            Ok(())
+        }
+        Ok(None) => Err(Fail::from("no item")),
+        Err(Refusal::Unread(e)) => Err(Fail::from(e)),
+        Err(Refusal::Departs(_)) => Err(Fail::from("departs")),
+    }
+}
+
+/// The next item keeps the rules, and ends at this offset.
+pub fn passes(rt: &impl Abort, items: &mut RuledItems<'_, '_>, end: usize) -> Done {
+    match items.next_item::<IgnoredAny>() {
+        Ok(Some(_)) => {
+            assert_eq!(rt; items.byte_offset(), end);
+            Ok(())
+        }
+        Ok(None) => Err(Fail::from("no item")),
+        Err(Refusal::Unread(e)) => Err(Fail::from(e)),
+        Err(Refusal::Departs(_)) => Err(Fail::from("departs")),
+    }
+}
+
+/// No item is left.
+pub fn gives_none<'a, T: Deserialize<'a, SliceRead<'a>>>(items: &mut RuledItems<'a, '_>) -> Done {
+    match items.next_item::<T>() {
+        Ok(None) => Ok(()),
+        _ => Err(Fail::from("not at the end")),
+    }
+}
+
+/// The next item departs from this rule first, at this offset.
+pub fn item_departs<'a, T: Deserialize<'a, SliceRead<'a>>>(
+    rt: &impl Abort,
+    items: &mut RuledItems<'a, '_>,
+    rule: Rule,
+    offset: u64,
+) -> Done {
+    match items.next_item::<T>() {
+        Ok(_) => Err(Fail::from("not refused")),
+        Err(Refusal::Unread(e)) => Err(Fail::from(e)),
+        Err(Refusal::Departs(departure)) => {
+            assert_eq!(rt; departure, Departure { rule, offset });
+            Ok(())
+        }
+    }
+}
+
+/// The next item isn't read, which is reported at this offset.
+pub fn item_is_refused<'a, T: Deserialize<'a, SliceRead<'a>>>(
+    rt: &impl Abort,
+    items: &mut RuledItems<'a, '_>,
+    offset: u64,
+) -> Done {
+    match items.next_item::<T>() {
+        Ok(_) => Err(Fail::from("not refused")),
+        Err(Refusal::Departs(_)) => Err(Fail::from("departs")),
+        Err(Refusal::Unread(e)) => {
+            if e.is_memory() {
+                return Err(Fail::from(e));
+            }
+            assert_eq!(rt; e.offset(), offset);
+            Ok(())
+        }
+    }
 }

@@ -8,6 +8,8 @@ mod checks;
 #[cfg(test)]
 mod dcbor;
 #[cfg(test)]
+mod items;
+#[cfg(test)]
 mod keys;
 #[cfg(test)]
 mod rules;
