@@ -6,5 +6,5 @@ pub use cbor_ser::{
     CollectionSerializer, FieldDocument, FieldsDocument, IoWrite, Items, NamedFields,
     OptionalField, PartsDocument, Serialize, SerializeField, SerializeFields, SerializeTuple,
     SerializeVariant, Serializer, SliceWrite, StructSerializer, TupleDocuments, VariantDocument,
-    Write, WrittenBy, to_vec, to_vec_packed, to_writer,
+    Write, WriteDone, WriteRefused, WrittenBy, to_vec, to_vec_packed, to_writer,
 };
