@@ -21,6 +21,7 @@ pub mod NewFieldPassed
 pub mod StructLoops
 pub mod Enums
 pub mod AtHand
+pub mod Made
 pub mod ItemLists
 pub mod StreamSteps
 pub mod Taken

@@ -18,6 +18,7 @@ pub mod Absent
 pub mod Access
 pub mod Alike
 pub mod ByteStrings
+pub mod Cows
 pub mod Calls
 pub mod ContentTaken
 pub mod FieldTypes
@@ -31,6 +32,7 @@ pub mod ItemTaken
 pub mod Items
 pub mod NewFields
 pub mod PartTaken
+pub mod Sets
 pub mod StreamAnswers
 pub mod Streamed
 pub mod Streams

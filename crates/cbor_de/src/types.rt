@@ -9,6 +9,7 @@ mod maps;
 mod numbers;
 mod option;
 mod sequences;
+mod sets;
 mod simple;
 mod strings;
 mod tuples;

@@ -4,6 +4,7 @@ pub mod Scalars
 pub mod Lists
 pub mod Options
 pub mod Keyed
+pub mod Members
 pub mod Values
 pub mod Tagged
 pub mod Names

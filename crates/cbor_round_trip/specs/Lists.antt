@@ -13,13 +13,13 @@ use Rattle.cbor_round_trip.specs.OneReading.{in_array}
 use Rattle.cbor_round_trip.specs.ReadBack.{IsReadBack}
 
 module _ {A : Type 0} {document : A → Doc} {reads : Context → Raw → A → Type 0} {fits : A → Type 0} {determined : Type 0} (law : IsReadBack document reads fits determined) where
-  items_itself : (xs : List A) → AllByRecursion fits xs → (l : Lends) (p g : Bool)
+  pub items_itself : (xs : List A) → AllByRecursion fits xs → (l : Lends) (p g : Bool)
       → AreRead (reads (lending all_formats l)) (raws_of (docs document xs) p g) xs
   unfolding raws_of
   items_itself [] fit l p g = tt
   items_itself (x ∷ xs) fit l p g = (law.itself x fit.0 l p g, items_itself xs fit.1 l p g)
 
-  items_alone : (xs ys : List A) → AllByRecursion fits xs → (l : Lends) (p g : Bool)
+  pub items_alone : (xs ys : List A) → AllByRecursion fits xs → (l : Lends) (p g : Bool)
       → AreRead (reads (lending all_formats l)) (raws_of (docs document xs) p g) ys
       → docs document ys ≡ docs document xs
   unfolding raws_of
@@ -29,7 +29,7 @@ module _ {A : Type 0} {document : A → Doc} {reads : Context → Raw → A → 
   items_alone (x ∷ xs) (y ∷ ys) fit l p g h =
       ap₂ doc (law.alone x y fit.0 l p g h.0) (items_alone xs ys fit.1 l p g h.1)
 
-  items_one : determined → (c : Context) (rs : Raws) (xs ys : List A) → AreRead (reads c) rs xs → AreRead (reads c) rs ys
+  pub items_one : determined → (c : Context) (rs : Raws) (xs ys : List A) → AreRead (reads c) rs xs → AreRead (reads c) rs ys
       → docs document xs ≡ docs document ys
   items_one d c no_raws [] [] h k = refl
   items_one d c no_raws [] (y ∷ ys) h k = absurd k

@@ -11,7 +11,7 @@ use cbor_ser::Serialize;
 ///
 /// `law` is the law as a value. Its `fits` says what the law asks of a value, and each value in a
 /// program keeps it: a number lies in its type's range, an array has its length, and the keys of a
-/// map ascend. Three types ask more, since what they write doesn't show all:
+/// map and the items of a set ascend. Three types ask more, since what they write doesn't show all:
 ///
 /// - `Option`: the value of a `Some` isn't written as null, as `Some(())` and `Some(None)` are;
 /// - `Tagged`: a value within no tag has none of its own;

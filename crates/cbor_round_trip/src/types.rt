@@ -4,7 +4,7 @@ use crate::round_trip::{RoundTrip, RoundTripKey};
 use cbor_convert::{Encoded, Required, Tagged};
 use cbor_value::bytes::{ByteArray, ByteBuf};
 use cbor_value::{Float, Value};
-use std::collections::BTreeMap;
+use std::collections::{BTreeMap, BTreeSet};
 
 impl RoundTrip for bool {
     ghost use Rattle.cbor_round_trip.specs.Scalars.{bool_back};
@@ -270,6 +270,19 @@ impl<K: RoundTripKey, V: RoundTrip> RoundTrip for BTreeMap<K, V> {
 
     ghost back = { where_determined (λ d. (d.1, d.0.1))
         (asking_more (λ m fit. fit.1) (map_back K.Ord.total K.reported K.back V.back)) };
+}
+
+/// Each set whose items are written so that their order shows.
+impl<T: RoundTripKey> RoundTrip for BTreeSet<T> {
+    ghost use Rattle.cbor_round_trip.specs.Members.{AreFit, set_back};
+    ghost use Rattle.cbor_round_trip.specs.ReadBack.{asking_more, where_determined};
+    ghost use Rattle.cbor_round_trip.specs.TypeLaws.{law_asking_both};
+
+    ghost law = { law_asking_both (λ s. AreFit T.cmp T.law.fits s.keys) T.law.determined
+        (set_back T.key.total T.key.reported T.key.back {keys = λ s. s.keys}) };
+
+    ghost back = { where_determined (λ d. d.1)
+        (asking_more (λ s fit. fit.1) (set_back T.Ord.total T.reported T.back)) };
 }
 
 /// A value within a tag; and without one, a value that has none of its own, as a `Tagged` within

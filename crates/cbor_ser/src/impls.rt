@@ -1,6 +1,7 @@
 //! The documents of the standard library's types but its tuples, of byte strings and of values.
 
 ghost use Rattle.std.specs.Prelude.{string_bytes, encode_utf8};
+ghost use Rattle.std.specs.Cow.{cow_str_bytes};
 ghost use Rattle.cbor_model.specs.Document.{null, bool, bytes, text, sequence, mapping};
 ghost use Rattle.cbor_model.specs.Document.{declared};
 ghost use Rattle.cbor_model.specs.Document.{docs, doc_pairs, document_of};
@@ -14,7 +15,8 @@ use cbor_io::error::{Error, Result};
 use cbor_io::write::Write;
 use cbor_value::Value;
 use cbor_value::bytes::{ByteArray, ByteBuf, Bytes};
-use std::collections::BTreeMap;
+use std::borrow::CowStr;
+use std::collections::{BTreeMap, BTreeSet};
 
 mod numbers;
 
@@ -84,6 +86,24 @@ impl Serialize for &str {
         refusal: &mut Option<Error>,
     ) -> WriteDone {
         ser.text_step(*self, refusal)
+    }
+}
+
+/// As the text that it lends or owns.
+impl Serialize for CowStr<'_> {
+    ghost document = { λ s. text (cow_str_bytes s) };
+
+    fn serialize<W: Write>(&self, ser: &mut Serializer<W>) -> Result<()> {
+        ser.serialize_str(self.as_str())
+    }
+
+    #[inline(always)]
+    fn serialize_step<W: Write>(
+        &self,
+        ser: &mut Serializer<W>,
+        refusal: &mut Option<Error>,
+    ) -> WriteDone {
+        ser.text_step(self.as_str(), refusal)
     }
 }
 
@@ -280,5 +300,22 @@ impl<K: Serialize + Ord, V: Serialize> Serialize for BTreeMap<K, V> {
 
     fn serialize<W: Write>(&self, ser: &mut Serializer<W>) -> Result<()> {
         ser.write_mapping(self)
+    }
+}
+
+/// As an array, in the order of its items.
+impl<T: Serialize + Ord> Serialize for BTreeSet<T> {
+    ghost document = { λ s. sequence declared (docs T.document s.keys) };
+
+    fn serialize<W: Write>(&self, ser: &mut Serializer<W>) -> Result<()> {
+        ser.write_set(self)
+    }
+
+    fn serialize_step<W: Write>(
+        &self,
+        ser: &mut Serializer<W>,
+        refusal: &mut Option<Error>,
+    ) -> WriteDone {
+        ser.set_step(self, refusal)
     }
 }

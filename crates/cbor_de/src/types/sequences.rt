@@ -3,7 +3,7 @@
 ghost use Rattle.std.specs.Prelude.{◌≡◌, IfOk, IfErr, OnOk, vec_len};
 ghost use Rattle.cbor_decode.specs.Decoder.{SameSettings};
 ghost use Rattle.cbor_model.specs.Readable.{PassesTags};
-ghost use Rattle.cbor_decode_as.specs.Arrays.{AsArray, AreExactly, items_in};
+ghost use Rattle.cbor_decode_as.specs.Arrays.{AsArray, AreExactly, AreRead, items_in};
 ghost use Rattle.cbor_decode_as.specs.Takes.{context};
 ghost use Rattle.cbor_de.specs.Calls as call;
 
@@ -25,31 +25,46 @@ impl<T: Readable> Readable for Vec<T> {
 }
 
 impl<'de, R: Read<'de>, T: Deserialize<'de, R>> Deserialize<'de, R> for Vec<T> {
-    #[tactic(auto, using(crate::proofs::Forms::plain))]
     fn deserialize(de: &mut Deserializer<R>) -> Result<Vec<T>> {
-        let mut items = Vec::new(de.decoder.alloc);
-        let mut access = de.array()?;
-        // As `next_element` goes on, whose answer would be moved for each item.
-        'items: loop {
-            match access.more() {
-                Ok(true) => {}
-                Ok(false) => break,
-                Err(refused) => return Err(access.refused(refused)),
-            }
-            let item = match T::at_hand(access.de) {
-                Some(item) => item,
-                None => match T::deserialize(access.de) {
-                    Ok(item) => item,
-                    Err(e) => return Err(access.refuse(e)),
-                },
-            };
-            if push_any(&mut items, item, access.remaining).is_err() {
-                return Err(access.refuse(Error::from(AllocError)));
-            }
-        }
-        access.end()?;
-        Ok(items)
+        array_items::<T, R>(de)
     }
+}
+
+// The items of an array.
+#[inline(always)]
+#[tactic(auto, using(crate::proofs::Forms::plain))]
+pub(super) fn array_items<'de, T: Deserialize<'de, R>, R: Read<'de>>(
+    de: &mut Deserializer<R>,
+) -> Result<Vec<T>>
+    ensures read { call.TakesItem R.source R.refusals
+        (PassesTags (AsArray (AreRead (T.reads (context de.old.decoder.formats R.lends)))))
+        de.old de.new (items_in result) }
+    ensures taken { OnOk result (call.Advances R.source de.old de.new) }
+    ensures form { IfErr result (call.MayReport R.source T.wrong_forms de.old) }
+    ensures settings { SameSettings de.old.decoder de.new.decoder }
+{
+    let mut items = Vec::new(de.decoder.alloc);
+    let mut access = de.array()?;
+    // As `next_element` goes on, whose answer would be moved for each item.
+    'items: loop {
+        match access.more() {
+            Ok(true) => {}
+            Ok(false) => break,
+            Err(refused) => return Err(access.refused(refused)),
+        }
+        let item = match T::at_hand(access.de) {
+            Some(item) => item,
+            None => match T::deserialize(access.de) {
+                Ok(item) => item,
+                Err(e) => return Err(access.refuse(e)),
+            },
+        };
+        if push_any(&mut items, item, access.remaining).is_err() {
+            return Err(access.refuse(Error::from(AllocError)));
+        }
+    }
+    access.end()?;
+    Ok(items)
 }
 
 impl<T: DeserializeOwned> DeserializeOwned for Vec<T> {

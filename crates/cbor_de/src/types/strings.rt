@@ -6,6 +6,7 @@ use cbor_decode_as::borrowed::EitherStr;
 use cbor_decode_as::string::{NO_STRING, read_string, text_at_hand};
 use cbor_io::error::{Error, Result};
 use cbor_read::{EitherLifetime, Read, Source};
+use std::borrow::CowStr;
 
 impl Readable for String {
     ghost use Rattle.std.specs.Prelude.{true};
@@ -59,6 +60,34 @@ impl<'de, R: Read<'de>> Deserialize<'de, R> for &'de str {
             Ok(EitherStr::Short(_)) => {
                 Err(Error::message(alloc, "invalid type: expected a borrowed string"))
             }
+            Err(why) => Err(de.unread(why, NO_STRING)),
+        }
+    }
+}
+
+/// A text that is lent where the source lends it for the input's life, and else a copy of it.
+impl Readable for CowStr<'_> {
+    ghost use Rattle.std.specs.Prelude.{true};
+    ghost use Rattle.cbor_model.specs.Readable.{PassesTags};
+    ghost use Rattle.cbor_de.specs.Cows.{IsCowText};
+    ghost use Rattle.cbor_de.specs.Forms.{never};
+
+    ghost reads = { λ c. PassesTags (λ r s. IsCowText c r s) };
+
+    ghost wrong_forms = { never };
+
+    ghost passes_over = { true };
+}
+
+impl<'de, R: Read<'de>> Deserialize<'de, R> for CowStr<'de> {
+    fn deserialize(de: &mut Deserializer<R>) -> Result<CowStr<'de>> {
+        let alloc = de.decoder.alloc;
+        match de.read_text() {
+            Ok(EitherStr::Long(text)) => Ok(CowStr::Borrowed(text)),
+            Ok(EitherStr::Short(text)) => match String::from_str(alloc, text) {
+                Ok(text) => Ok(CowStr::Owned(text)),
+                Err(full) => Err(Error::from(full)),
+            },
             Err(why) => Err(de.unread(why, NO_STRING)),
         }
     }

@@ -1,4 +1,5 @@
-//! Writing the items of lists and the entries of maps, each head and item as directly as a value's.
+//! Writing the items of lists and sets and the entries of maps, each head and item as directly as a
+//! value's.
 
 ghost use Rattle.std.specs.Prelude.{Some};
 ghost use Rattle.cbor_model.specs.Document.{declared, sequence, mapping, docs, doc_pairs};
@@ -10,7 +11,7 @@ use crate::items::{WriteDone, answer};
 use crate::serialize::Serialize;
 use cbor_io::error::{Error, Result};
 use cbor_io::write::Write;
-use std::collections::BTreeMap;
+use std::collections::{BTreeMap, BTreeSet};
 
 impl<W: Write> Serializer<W> {
     // Appends the items of a list as a sequence.
@@ -42,6 +43,44 @@ impl<W: Write> Serializer<W> {
             (items (docs T.document list.now) (ending (Some 0))) self.new result refusal.new }
     {
         for one in list {
+            one.serialize_step(self, refusal)?;
+        }
+        Ok(())
+    }
+
+    // Appends the items of a set as a sequence, in their order.
+    pub(crate) fn write_set<T: Serialize + Ord>(&mut self, set: &BTreeSet<T>) -> Result<()>
+        ensures { Serialized W.written W.refuses W.references W.capacity self.old
+            (item (sequence declared (docs T.document set.now.keys))) self.new result }
+    {
+        let mut refusal = None;
+        let done = self.set_step(set, &mut refusal);
+        answer(done, refusal)
+    }
+
+    // The same as a step.
+    pub(crate) fn set_step<T: Serialize + Ord>(
+        &mut self,
+        set: &BTreeSet<T>,
+        refusal: &mut Option<Error>,
+    ) -> WriteDone
+        ensures { Stepped W.written W.refuses W.references W.capacity self.old
+            (item (sequence declared (docs T.document set.now.keys))) self.new result refusal.new }
+    {
+        self.array_step(set.len(), refusal)?;
+        self.members_step(set, refusal)
+    }
+
+    // Appends the items of a set, one after the other.
+    fn members_step<T: Serialize + Ord>(
+        &mut self,
+        set: &BTreeSet<T>,
+        refusal: &mut Option<Error>,
+    ) -> WriteDone
+        ensures { Stepped W.written W.refuses W.references W.capacity self.old
+            (items (docs T.document set.now.keys) (ending (Some 0))) self.new result refusal.new }
+    {
+        for one in set.iter() {
             one.serialize_step(self, refusal)?;
         }
         Ok(())

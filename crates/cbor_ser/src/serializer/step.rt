@@ -85,6 +85,7 @@ impl<W: Write> Serializer<W> {
     }
 
     // Appends a float, as the setting has it.
+    #[inline(always)]
     pub(crate) fn float_step(&mut self, v: Float, refusal: &mut Option<Error>) -> WriteDone
         ensures { Stepped W.written W.refuses W.references W.capacity self.old
             (item (document_of (float_view v))) self.new result refusal.new }

@@ -2,7 +2,6 @@ use Rattle.std.proofs.Common.{refl, Some}
 use Rattle.std.specs.Prelude.{Ok}
 use Rattle.cbor_model.specs.Document.{docs}
 use Rattle.cbor_model.specs.Parts.{ending, items, part_bytes}
-use Rattle.std.proofs.Common.{drop, ◌+◌}
 use Rattle.cbor_ser.proofs.Lists.{next_item, no_item}
 use Rattle.cbor_ser.proofs.WriteSteps.{step_then, step_stops, same_step, nothing_step}
 use Rattle.cbor_ser.proofs.serializer.Serializer.items_step.Goals as goal

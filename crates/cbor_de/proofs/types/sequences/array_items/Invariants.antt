@@ -4,7 +4,7 @@ use Rattle.cbor_decode.specs.Heads.{remaining_of}
 use Rattle.cbor_decode_as.specs.Accesses.{most_left}
 use Rattle.cbor_decode_as.specs.Takes.{context, formats_of}
 use Rattle.cbor_decode_as.proofs.facts.Arrays.{SoFar, EachRead}
-use Rattle.cbor_de.proofs.types.sequences.VecDeserialize.deserialize.Given as goal
+use Rattle.cbor_de.proofs.types.sequences.array_items.Given as goal
 
 abbrev pub invariant-items : goal.invariant-items
 invariant-items g l = record {
