@@ -25,6 +25,19 @@ def of_five_bytes(major):
     return head(major, rng.randrange(1 << 16, 1 << 31))
 
 
+def small_struct(spam, eggs):
+    return b'\xa2' + spam + of_five_bytes(UNSIGNED) + eggs + of_five_bytes(UNSIGNED)
+
+
+def color(blue):
+    others = [
+        b'\xa1' + text('Other') + of_five_bytes(UNSIGNED),
+        b'\xa1' + text('Yellow') + head(UNSIGNED, rng.randrange(24)),
+        b'\xa1' + text('Alpha') + b'\x82' + of_five_bytes(UNSIGNED) + b'\x01',
+    ]
+    return rng.choice([blue, *others])
+
+
 LISTS = {
     'bool': ('b', lambda: rng.choice([b'\xf4', b'\xf5'])),
     'Option<u8>, half null': ('o', lambda: rng.choice([b'\xf6', head(UNSIGNED, rng.randrange(24))])),
@@ -38,6 +51,10 @@ LISTS = {
     'String, 8 bytes': ('S', lambda: word(8)),
     'f64': ('f', lambda: b'\xfb' + struct.pack('>d', rng.random() * 1e9 + 1 / 3)),
     '(u32, bool, String)': ('t', lambda: b'\x83' + of_five_bytes(UNSIGNED) + b'\xf5' + word(8)),
+    'struct of two u32, by names': ('p', lambda: small_struct(text('spam'), text('eggs'))),
+    'struct of two u32, by numbers': ('P', lambda: small_struct(b'\x00', b'\x01')),
+    'enum of four variants, by names': ('e', lambda: color(text('Blue'))),
+    'enum of four variants, by numbers': ('E', lambda: color(b'\x00')),
 }
 
 

@@ -27,6 +27,10 @@ LISTS = {
     'Vec<String>, of 8 bytes': 'String, 8 bytes',
     'Vec<f64>, of 64 bits': 'f64',
     'Vec<(u32, bool, String)>': '(u32, bool, String)',
+    'struct of two u32, by names': 'struct of two u32, by names',
+    'the same, by numbers': 'struct of two u32, by numbers',
+    'enum of four variants, by names': 'enum of four variants, by names',
+    'the same enum, by numbers': 'enum of four variants, by numbers',
 }
 
 

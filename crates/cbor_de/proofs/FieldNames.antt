@@ -1,16 +1,55 @@
 -- The fields that keys name.
-use Rattle.std.proofs.Common.{ℕ, Bool, List}
+use Rattle.std.proofs.Common.{◌≡◌, ◌∙◌, ℕ, suc, pos, Bool, Bor, List, [], ◌∷◌, length, Some, None, Ok, refl, ap}
+use Rattle.std.specs.Prelude.{nat_lt, if◌then◌else◌}
 use Rattle.cbor_model.specs.Formats.{Formats}
+use Rattle.cbor_model.specs.Raw as raw
 use Rattle.cbor_model.specs.Raw.{Raw}
-use Rattle.cbor_model.specs.Readable.{PassesTags}
+use Rattle.cbor_model.specs.Readable.{IsFromZero, PassesTags, untagged}
 use Rattle.cbor_model.specs.Reader.{item_at}
 use Rattle.cbor_read.specs.Source.{Input}
 use Rattle.cbor_io.specs.declared.error.ErrorCode.{ErrorCode}
 use Rattle.cbor_io.specs.declared.read_error.ReadErrorCode.{ReadErrorCode}
-use Rattle.cbor_decode_as.specs.Identifiers.{IsIdentifier}
+use Rattle.cbor_decode_as.specs.Identifiers.{IsIdentifier, place_of, texts}
 use Rattle.cbor_de.specs.Structs.{IsAny, IsField, place_in}
-use Rattle.cbor_decode_as.specs.Takes.{raws, IsNotRead, Refuses}
+use Rattle.cbor_de.specs.declared.field.Field.{Field}
+use Rattle.cbor_decode_as.specs.Takes.{raws, IsNotRead, IsRead, Refuses, TakesItem}
+use Rattle.cbor_decode.proofs.facts.Steps.{step_map}
 use Rattle.cbor_decode_as.proofs.facts.Readings.{refuses_map}
+
+-- ---- numbers
+
+length_texts : (ns : List (Bor (List ℕ))) → length (texts ns) ≡ length ns
+length_texts [] = refl
+length_texts (n ∷ ns) = ap suc (length_texts ns)
+
+pub number_place : (ns : List (Bor (List ℕ))) (n : ℕ) → place_of (texts ns) n ≡ (if nat_lt n (length ns) then Some n else None)
+number_place ns n = ap (λ (k : ℕ). if nat_lt n k then Some n else None) (length_texts ns)
+
+one_number : (n m : ℕ) → pos n ≡ pos m → n ≡ m
+one_number n m e = cc
+
+-- a number from 0 names the field in its place
+names_field : (names : List (List ℕ)) (most n : ℕ) (field : Field) → place_in field ≡ place_of names n → (r : Raw) → IsFromZero most r n → IsIdentifier names r (place_in field)
+names_field names most n field at (raw.unsigned w m) is = at ∙ ap (place_of names) (one_number n m is.0)
+names_field names most n field at (raw.negative w m) is = absurd cc
+names_field names most n field at (raw.bytes c) is = absurd is.0
+names_field names most n field at (raw.text c) is = absurd is.0
+names_field names most n field at (raw.bytes_chunks cs) is = absurd is.0
+names_field names most n field at (raw.text_chunks cs) is = absurd is.0
+names_field names most n field at (raw.array l rs) is = absurd is.0
+names_field names most n field at (raw.map l ps) is = absurd is.0
+names_field names most n field at (raw.tag w k r) is = absurd is.0
+names_field names most n field at (raw.simple s) is = absurd is.0
+names_field names most n field at (raw.float w bits) is = absurd is.0
+
+-- so the field is read that a number names
+pub number_read : (names : List (List ℕ)) (allowed : ReadErrorCode → Bool) (f : Formats) (levels : ℕ) (s t : Input) (most n : ℕ) (field : Field) → place_in field ≡ place_of names n
+    → TakesItem allowed f (PassesTags (IsFromZero most)) levels s t (Ok n) → TakesItem allowed f (IsField names) levels s t (Ok field)
+number_read names allowed f levels s t most n field at =
+    step_map s t (λ l bs rest. IsRead (PassesTags (IsFromZero most)) (item_at (raws f l) levels bs) n rest) (λ l bs rest. IsRead (IsField names) (item_at (raws f l) levels bs) field rest)
+    (λ l bs rest read. record { item = read.item; is = read.is; means = names_field names most n field at (untagged read.item) read.means })
+
+-- ---- other keys
 
 -- what names nothing names no field
 pub no_field : {w : Input} (names : List (List ℕ)) (allowed : ReadErrorCode → Bool) (f : Formats) (levels : ℕ) (s : Input) (k : ErrorCode) (at : ℕ)

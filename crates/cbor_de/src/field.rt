@@ -9,7 +9,7 @@ ghost use Rattle.cbor_decode.specs.declared.cursor.Remaining.TheVariants.{Counte
 ghost use Rattle.cbor_decode.specs.Gives.{ReportsNoForm};
 ghost use Rattle.cbor_decode_as.specs.Accesses.{most_left};
 ghost use Rattle.cbor_decode_as.specs.Cases.{HasCase, ReportsBadKey, key_cases};
-ghost use Rattle.cbor_decode_as.specs.Identifiers.{IsMadeBy, NamesNoKey, texts};
+ghost use Rattle.cbor_decode_as.specs.Identifiers.{IsMadeBy, NamesNoKey, place_of, texts};
 ghost use Rattle.cbor_decode_as.specs.MapAccesses.{TakesKey};
 ghost use Rattle.cbor_de.specs.Structs.{IsField, place_in, missing_text, duplicate_text};
 ghost use Rattle.cbor_decode_as.specs.Takes.{OnceMade};
@@ -21,6 +21,7 @@ use crate::de::Deserializer;
 use cbor_decode::Remaining;
 use cbor_decode_as::collection::more_pairs;
 use cbor_decode_as::identifier::{Lookup, identifier, unnamed};
+use cbor_decode_as::integer::from_zero_at_hand;
 use cbor_io::error::{Error, Result};
 use cbor_read::Read;
 use std::alloc::Global;
@@ -32,6 +33,20 @@ pub enum Field {
     Known(usize),
     /// A number or a name that no field has.
     Unknown,
+}
+
+// The field of this number.
+#[inline(always)]
+#[tactic(auto, using(crate::proofs::FieldNames::number_place))]
+fn numbered(names: &[&str], n: u64) -> Field
+    ensures place { place_in result ≡ place_of (texts names.now) n }
+    ensures below { IfSome (place_in result) (λ i. i < length names.now) }
+{
+    if n < names.len() as u64 {
+        Field::Known(n as usize)
+    } else {
+        Field::Unknown
+    }
 }
 
 impl<'de, R: Read<'de>> Deserializer<R> {
@@ -46,6 +61,9 @@ impl<'de, R: Read<'de>> Deserializer<R> {
         ensures no_key { IfErr result (NamesNoKey self.new.decoder.refusal) }
         ensures settings { SameSettings self.old.decoder self.new.decoder }
     {
+        if let Some(n) = from_zero_at_hand(&mut self.decoder, u64::MAX) {
+            return Ok(numbered(names, n));
+        }
         match identifier(&mut self.decoder, names)? {
             Some(place) => Ok(Field::Known(place)),
             None => Ok(Field::Unknown),

@@ -1,7 +1,7 @@
 -- Lists of fields: the fields of a view, and what a call on a field adds to what is known of a struct.
 use Rattle.std.proofs.Common.{◌≡◌, ◌≤◌, ◌⊎◌, inl, inr, ℕ, zero, suc, ◌+◌, ◌++◌, Bool, true, false, List, [], ◌∷◌, length, Option, Some, None, Ok, Err, refl, sym, ap, subst, ◌∙◌, arith}
 use Rattle.std.specs.Option.{is_some}
-use Rattle.std.specs.Prelude.{Result, IsErrAnd}
+use Rattle.std.specs.Prelude.{Result, IsErrAnd, MatchBool}
 use Rattle.cbor_model.specs.Formats as model
 use Rattle.cbor_model.specs.Reader.{item_at}
 use Rattle.cbor_read.specs.Source.{Input, TookSome}
@@ -103,6 +103,30 @@ module _ {S : Type 0} (f : model.Formats) (levels : ℕ) (allowed : ReadErrorCod
     taken_behind (d ∷ front) (suc i) j is fs old new s t (Err e) h =
         let before : i ≡ length front + j = omega (arith, is) in
         taken_behind front i j before fs.1 old new s t (Err e) h
+
+-- ---- a field that is at hand
+
+module _ {S : Type 0} (f : model.Formats) (levels : ℕ) (allowed : ReadErrorCode → Bool) where
+  pub slot_here : (front : List (FieldOf S)) (d : FieldOf S) (back : List (FieldOf S)) (i : ℕ) → i ≡ length front → (fs : Slots front) (o o' : Option d.Value) (bs : Slots back) (s t : Input) (b : Bool)
+      → MatchBool b (TakesSlot f levels allowed d.reads o o' s t (Ok tt)) (t ≡ s)
+      → MatchBool b (FieldTaken f levels (front ++ d ∷ back) i (joined front (d ∷ back) fs (o, bs)) (joined front (d ∷ back) fs (o', bs)) s t) (t ≡ s)
+  slot_here front d back i is fs o o' bs s t true h = slot_taken f levels allowed front d back i is fs o o' bs s t (Ok tt) h
+  slot_here front d back i is fs o o' bs s t false h = h
+
+  pub others_here : {T : Type 0} (view : S → T) (fields : List (FieldOf T)) (front : List (FieldOf S)) (i j : ℕ) → i ≡ length front + j → (fs : Slots front) (old new : Slots fields) (s t : Input) (b : Bool)
+      → MatchBool b (FieldTaken f levels fields j old new s t) (t ≡ s)
+      → MatchBool b (FieldTaken f levels (front ++ over view fields) i (joined front (over view fields) fs (slots_over view fields old)) (joined front (over view fields) fs (slots_over view fields new)) s t) (t ≡ s)
+  others_here view fields front i j is fs old new s t true h = taken_behind f levels allowed view fields front i j is fs old new s t (Ok tt) h
+  others_here view fields front i j is fs old new s t false h = h
+
+-- what a call gave where nothing was at hand
+pub taken_from : {S H : Type 0} (fields : Formats → List (FieldOf S)) (slots : (f : Formats) → H → Slots (fields f)) (allowed : ReadErrorCode → Bool) (f g : Formats) → g ≡ f → (levels left : ℕ) → left ≡ levels → (held kept new : H) → kept ≡ held → (s m t : Input) → m ≡ s → (i : ℕ) (r : Result (Unit {0}) Error)
+    → TakesField (formats_of g) left allowed (fields g) i (slots g kept) (slots g new) m t r → TakesField (formats_of f) levels allowed (fields f) i (slots f held) (slots f new) s t r
+taken_from {S} {H} fields slots allowed f g formats levels left inside held kept new same s m t here i r h =
+    subst (λ (x : Formats). TakesField (formats_of x) levels allowed (fields x) i (slots x held) (slots x new) s t r) formats
+    (subst (λ (n : ℕ). TakesField (formats_of g) n allowed (fields g) i (slots g held) (slots g new) s t r) inside
+    (subst (λ (x : H). TakesField (formats_of g) left allowed (fields g) i (slots g x) (slots g new) s t r) same
+    (subst (λ (x : Input). TakesField (formats_of g) left allowed (fields g) i (slots g kept) (slots g new) x t r) here h)))
 
 -- ---- which field a call was for
 

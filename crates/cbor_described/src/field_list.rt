@@ -1,10 +1,12 @@
 //! Lists of fields, of which structs are read.
 
-ghost use Rattle.std.specs.Prelude.{◌≡◌, ◌≤◌, true, length, Some, IfOk, IfErr, OnOk};
+ghost use Rattle.std.specs.Prelude.{◌≡◌, ◌≤◌, true, length, Some, Ok, IfOk, IfErr, OnOk};
+ghost use Rattle.std.specs.Prelude.{MatchBool};
+ghost use Rattle.std.specs.Bool.{OnFalse};
 ghost use Rattle.std.specs.Option.{is_some};
 ghost use Rattle.cbor_model.specs.Readable.{Context};
 ghost use Rattle.cbor_decode.specs.Decoder.{SameSettings};
-ghost use Rattle.cbor_described.specs.FieldLists.{IsLacking, TakesField, TakesSlot};
+ghost use Rattle.cbor_described.specs.FieldLists.{FieldTaken, IsLacking, TakesField, TakesSlot};
 ghost use Rattle.cbor_de.specs.Fields.{AreHeld, IsHeld, Lacks, none_yet};
 ghost use Rattle.cbor_decode_as.specs.Identifiers.{texts};
 ghost use Rattle.cbor_de.specs.Structs.{IsAny, IsStruct, duplicate_text, missing_text};
@@ -16,8 +18,8 @@ ghost use Rattle.cbor_de.specs.Calls as call;
 
 use cbor_de::steps::{end_map, leave_to, map_head};
 use cbor_de::{
-    Deserialize, Deserializer, Field, FieldType, IgnoredAny, Read, Readable, duplicate_field,
-    missing_field, next_key,
+    Deserialize, Deserializer, Field, FieldType, IgnoredAny, Read, Readable, Source,
+    duplicate_field, missing_field, next_key,
 };
 use cbor_io::error::Result;
 use std::alloc::Global;
@@ -73,6 +75,19 @@ pub(crate) trait ReadFields<'de, R: Read<'de>>: FieldList {
         ensures forward { IfOk result (λ u. (R.source de.old.decoder.source).offset
             ≤ (R.source de.new.decoder.source).offset) }
         ensures settings { SameSettings de.old.decoder de.new.decoder };
+
+    // Reads it so where it is at hand and the slot has no value: without room for an error. Where it
+    // isn't, it answers false and changes nothing.
+    fn take_at_hand(de: &mut Deserializer<R>, i: usize, held: &mut Self::Slots) -> bool
+        ensures read { let c = context de.old.decoder.formats R.lends in
+            MatchBool result (FieldTaken (formats_of de.old.decoder.formats) de.old.decoder.levels
+            (Self.fields c) i (Self.slots c held.old) (Self.slots c held.new)
+            (R.source de.old.decoder.source) (R.source de.new.decoder.source))
+            (R.source de.new.decoder.source ≡ R.source de.old.decoder.source) }
+        ensures held { OnFalse result (held.new ≡ held.old) }
+        ensures forward { (R.source de.old.decoder.source).offset
+            ≤ (R.source de.new.decoder.source).offset }
+        ensures settings { SameSettings de.old.decoder de.new.decoder };
 }
 
 // A field of a struct, which is read from a source. What has several fields asks for this of each:
@@ -127,6 +142,10 @@ impl FieldList for () {
 impl<'de, R: Read<'de>> ReadFields<'de, R> for () {
     fn take(de: &mut Deserializer<R>, _i: usize, _name: &str, _held: &mut ()) -> Result<()> {
         skip_item(de)
+    }
+
+    fn take_at_hand(_de: &mut Deserializer<R>, _i: usize, _held: &mut ()) -> bool {
+        false
     }
 }
 
@@ -242,6 +261,14 @@ impl<'de, R: Read<'de>, A: ReadField<'de, R>, F: ReadFields<'de, R>> ReadFields<
         }
         A::take_slot(de, name, &mut held.0)
     }
+
+    #[inline(always)]
+    fn take_at_hand(de: &mut Deserializer<R>, i: usize, held: &mut (Option<A>, F::Slots)) -> bool {
+        if i != 0 {
+            return F::take_at_hand(de, i - 1, &mut held.1);
+        }
+        slot_at_hand::<R, A>(de, &mut held.0)
+    }
 }
 
 impl<
@@ -267,6 +294,46 @@ impl<
             _ => F::take(de, i - 4, name, &mut held.4),
         }
     }
+
+    #[inline(always)]
+    fn take_at_hand(
+        de: &mut Deserializer<R>,
+        i: usize,
+        held: &mut (Option<A>, Option<B>, Option<C>, Option<D>, F::Slots),
+    ) -> bool {
+        match i {
+            0 => slot_at_hand::<R, A>(de, &mut held.0),
+            1 => slot_at_hand::<R, B>(de, &mut held.1),
+            2 => slot_at_hand::<R, C>(de, &mut held.2),
+            3 => slot_at_hand::<R, D>(de, &mut held.3),
+            _ => F::take_at_hand(de, i - 4, &mut held.4),
+        }
+    }
+}
+
+// Reads the value of a field into its slot, where it is at hand and the slot has no value.
+#[inline(always)]
+fn slot_at_hand<R: Source, A: FieldType>(de: &mut Deserializer<R>, slot: &mut Option<A>) -> bool
+    ensures read { MatchBool result
+        (TakesSlot (formats_of de.old.decoder.formats) de.old.decoder.levels R.refusals
+        (A.reads (context de.old.decoder.formats R.lends)) slot.old slot.new
+        (R.source de.old.decoder.source) (R.source de.new.decoder.source) (Ok tt))
+        (R.source de.new.decoder.source ≡ R.source de.old.decoder.source) }
+    ensures held { OnFalse result (slot.new ≡ slot.old) }
+    ensures forward { (R.source de.old.decoder.source).offset
+        ≤ (R.source de.new.decoder.source).offset }
+    ensures settings { SameSettings de.old.decoder de.new.decoder }
+{
+    match slot {
+        Some(_) => false,
+        None => match <A::Of as Readable>::at_hand(de) {
+            Some(value) => {
+                *slot = Some(A::given(value));
+                true
+            }
+            None => false,
+        },
+    }
 }
 
 // Reads the value of a field into its slot. A slot that has a value is refused with
@@ -291,10 +358,6 @@ where
 {
     if slot.is_some() {
         return Err(duplicate_field(de.alloc(), name));
-    }
-    if let Some(value) = <A::Of as Readable>::at_hand(de) {
-        *slot = Some(A::given(value));
-        return Ok(());
     }
     match <A::Of as Deserialize<'de, R>>::deserialize(de) {
         Ok(value) => {
@@ -354,7 +417,12 @@ fn fields_within<'de, R: Read<'de>, F: ReadFields<'de, R>>(
     let mut held = F::none();
     'fields: while let Some(field) = next_key(de, &mut remaining, names)? {
         match field {
-            Field::Known(i) => F::take(de, i, names[i], &mut held)?,
+            Field::Known(i) => {
+                if F::take_at_hand(de, i, &mut held) {
+                    continue;
+                }
+                F::take(de, i, names[i], &mut held)?
+            }
             Field::Unknown => skip_item(de)?,
         }
     }

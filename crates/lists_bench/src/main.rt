@@ -5,10 +5,12 @@
 mod pieces;
 
 use pieces::Sevens;
+use samples::enums::Color;
+use samples::structs::SmallStruct;
 use serde_cbor::de::{
     BufferedRead, Deserialize, DeserializeOwned, Deserializer, IoRead, SliceRead,
 };
-use serde_cbor::ser::{BufferedWrite, IoWrite, Serialize};
+use serde_cbor::ser::{BufferedWrite, IoWrite, Serialize, to_vec_packed};
 use serde_cbor::{Result, from_reader, from_slice, to_vec, to_writer};
 use std::alloc::Global;
 use std::io::{BufReader, BufWriter, Read, Write};
@@ -61,6 +63,10 @@ fn of_slice(
         b'S' => turns::<String>(alloc, writes, times, item),
         b'f' => turns::<f64>(alloc, writes, times, item),
         b't' => turns::<(u32, bool, String)>(alloc, writes, times, item),
+        b'p' => turns::<SmallStruct>(alloc, writes, times, item),
+        b'P' => packed_turns::<SmallStruct>(alloc, writes, times, item),
+        b'e' => turns::<Color>(alloc, writes, times, item),
+        b'E' => packed_turns::<Color>(alloc, writes, times, item),
         _ => Ok(None),
     }
 }
@@ -76,6 +82,24 @@ fn turns<'a, T: Deserialize<'a, SliceRead<'a>> + Serialize>(
         let list: Vec<T> = from_slice(alloc, item)?;
         if writes {
             let bytes = to_vec(alloc, &list)?;
+            written = bytes.len();
+        }
+    }
+    Ok(Some(written))
+}
+
+// The same, with fields and unit variants written by their numbers.
+fn packed_turns<'a, T: Deserialize<'a, SliceRead<'a>> + Serialize>(
+    alloc: Global,
+    writes: bool,
+    times: u8,
+    item: &'a [u8],
+) -> Result<Option<usize>> {
+    let mut written = 0;
+    'turns: for _ in 0..times {
+        let list: Vec<T> = from_slice(alloc, item)?;
+        if writes {
+            let bytes = to_vec_packed(alloc, &list)?;
             written = bytes.len();
         }
     }

@@ -18,6 +18,32 @@ fn turns<'a, T: Deserialize<'a> + Serialize>(writes: bool, times: u8, item: &'a 
     Ok(())
 }
 
+/// As `turns`, with fields and unit variants written by their numbers.
+fn packed_turns<T: DeserializeOwned + Serialize>(writes: bool, times: u8, item: &[u8]) -> Result<()> {
+    for _ in 0..times {
+        let list: Vec<T> = serde_cbor::from_slice(black_box(item))?;
+        if writes {
+            black_box(serde_cbor::ser::to_vec_packed(&list)?);
+        }
+        drop(black_box(list));
+    }
+    Ok(())
+}
+
+#[derive(Serialize, Deserialize)]
+struct SmallStruct {
+    spam: u32,
+    eggs: u32,
+}
+
+#[derive(Serialize, Deserialize)]
+enum Color {
+    Blue,
+    Other(u64),
+    Yellow(u8),
+    Alpha(u64, u8),
+}
+
 /// Gives at most seven bytes a call.
 struct Sevens<'a>(&'a [u8]);
 
@@ -63,6 +89,10 @@ fn main() -> std::result::Result<ExitCode, Box<dyn Error>> {
         (0..=1, b'S') => turns::<String>(writes, times, item)?,
         (0..=1, b'f') => turns::<f64>(writes, times, item)?,
         (0..=1, b't') => turns::<(u32, bool, String)>(writes, times, item)?,
+        (0..=1, b'p') => turns::<SmallStruct>(writes, times, item)?,
+        (0..=1, b'P') => packed_turns::<SmallStruct>(writes, times, item)?,
+        (0..=1, b'e') => turns::<Color>(writes, times, item)?,
+        (0..=1, b'E') => packed_turns::<Color>(writes, times, item)?,
         (2..=4, b'b') => device_turns::<bool>(*task, times, item)?,
         (2..=4, b'i') => device_turns::<i64>(*task, times, item)?,
         (2..=4, b'u') => device_turns::<u32>(*task, times, item)?,

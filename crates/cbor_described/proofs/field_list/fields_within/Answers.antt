@@ -1,4 +1,4 @@
-use Rattle.std.proofs.Common.{◌∙◌, refl}
+use Rattle.std.proofs.Common.{◌≡◌, ◌∙◌, Ok, Err, refl}
 use Rattle.cbor_io.specs.Error.{code_of, offset_of}
 use Rattle.cbor_decode.specs.declared.formats.Formats.{Formats}
 use Rattle.cbor_described.specs.FieldLists.{FieldTaken, FieldRefused}
@@ -8,8 +8,9 @@ use Rattle.std.proofs.Common.{rules, subst, arith}
 use Rattle.std.proofs.lemmas.Result.{err_from_is_err_and}
 use Rattle.cbor_de.proofs.facts.Structs.{no_struct, no_field_named, field_named, other_passed, other_unread, field_missing, end_unread, struct_held}
 use Rattle.cbor_de.proofs.facts.Structs.{unknown_other}
-use Rattle.cbor_described.proofs.FieldLists.{unread, begins_with, value_in, value_not_in, lacking_is}
-use Rattle.cbor_de.specs.Forms.{any_of, key_form, never}
+use Rattle.cbor_read.specs.Source.{Input}
+use Rattle.cbor_described.proofs.FieldLists.{unread, begins_with, value_in, value_not_in, lacking_is, taken_from}
+use Rattle.cbor_de.specs.Forms.{MayReport, any_of, key_form, never}
 use Rattle.cbor_decode.proofs.facts.Steps.{advances_some}
 use Rattle.cbor_de.proofs.facts.Forms.{key_in_map, later_in, of_left, took_then}
 use Rattle.cbor_described.proofs.field_list.fields_within.Goals as goal
@@ -47,6 +48,25 @@ returns-in_err-field-clause-read g c =
 
 -- ---- its value
 
+pub fields-preserved-then-take_at_hand : goal.fields-preserved-then-take_at_hand
+fields-preserved-then-take_at_hand g c =
+    let i = c.fields.invariant in
+    let names = texts c.args.names.now in
+    let fields = λ (f : Formats). g.F.FieldList.fields (context f g.R.Source.lends) in
+    let slots = λ (f : Formats). g.F.FieldList.slots (context f g.R.Source.lends) in
+    let next = c.in_ok-field.ensures in
+    let key = field_named names (fields c.args.de.now.decoder.formats) i.so_far c.in_ok-field.field-0 c.in-Some.field c.in-Some.is refl c.next_key.new.remaining next.read next.settings.formats next.settings.levels in
+    let now = c.next_key.new.de.decoder in
+    let done = c.take_at_hand.ensures in
+    let named = advances_some _ _ _ i.advances next.read.took in
+    let read = rw c.if-take_at_hand.true at done.read in
+    let taken = subst (λ (f : Formats). FieldTaken (formats_of now.formats) now.levels (fields f) c.in-Known.i (slots f c.fields.held) (slots f c.take_at_hand.new.held) (g.R.Source.source now.source) (g.R.Source.source c.take_at_hand.new.de.decoder.source)) (next.settings.formats ∙ i.formats) read in
+    record {
+      formats = done.settings.formats ∙ next.settings.formats ∙ i.formats;
+      advances = record { further = omega (arith, named.further, done.forward); counted = named.counted };
+      so_far = value_in names (fields c.args.de.now.decoder.formats) key c.in-Known.i c.in-Known.is done.settings.formats done.settings.levels refl (slots c.args.de.now.decoder.formats c.take_at_hand.new.held) taken;
+    }
+
 pub fields-preserved-in-Continue-branch-4 : goal.fields-preserved-in-Continue-branch-4
 fields-preserved-in-Continue-branch-4 g c =
     let i = c.fields.invariant in
@@ -56,13 +76,19 @@ fields-preserved-in-Continue-branch-4 g c =
     let next = c.in_ok-field.ensures in
     let key = field_named names (fields c.args.de.now.decoder.formats) i.so_far c.in_ok-field.field-0 c.in-Some.field c.in-Some.is refl c.next_key.new.remaining next.read next.settings.formats next.settings.levels in
     let now = c.next_key.new.de.decoder in
+    let kept = c.take_at_hand.new.de.decoder in
+    let none = c.take_at_hand.ensures in
     let done = c.in_ok-take-in-Known.ensures in
     let named = advances_some _ _ _ i.advances next.read.took in
-    let taken = subst (λ (f : Formats). FieldTaken (formats_of now.formats) now.levels (fields f) c.in-Known.i (slots f c.fields.held) (slots f c.take.new.held) (g.R.Source.source now.source) (g.R.Source.source c.take.new.de.decoder.source)) (next.settings.formats ∙ i.formats) done.read in
+    let here : g.R.Source.source kept.source ≡ g.R.Source.source now.source = rw c.if-take_at_hand.false at none.read in
+    let held : c.take_at_hand.new.held ≡ c.fields.held = rw c.if-take_at_hand.false at none.held in
+    let t = g.R.Source.source c.take.new.de.decoder.source in
+    let read = taken_from fields slots g.R.Source.refusals now.formats kept.formats none.settings.formats now.levels kept.levels none.settings.levels c.fields.held c.take_at_hand.new.held c.take.new.held held (g.R.Source.source now.source) (g.R.Source.source kept.source) t here c.in-Known.i (Ok tt) done.read in
+    let taken = subst (λ (f : Formats). FieldTaken (formats_of now.formats) now.levels (fields f) c.in-Known.i (slots f c.fields.held) (slots f c.take.new.held) (g.R.Source.source now.source) t) (next.settings.formats ∙ i.formats) read in
     record {
-      formats = done.settings.formats ∙ next.settings.formats ∙ i.formats;
-      advances = record { further = omega (arith, named.further, done.forward); counted = named.counted };
-      so_far = value_in names (fields c.args.de.now.decoder.formats) key c.in-Known.i c.in-Known.is done.settings.formats done.settings.levels refl (slots c.args.de.now.decoder.formats c.take.new.held) taken;
+      formats = done.settings.formats ∙ none.settings.formats ∙ next.settings.formats ∙ i.formats;
+      advances = record { further = omega (arith, named.further, none.forward, done.forward); counted = named.counted };
+      so_far = value_in names (fields c.args.de.now.decoder.formats) key c.in-Known.i c.in-Known.is (done.settings.formats ∙ none.settings.formats) (done.settings.levels ∙ none.settings.levels) refl (slots c.args.de.now.decoder.formats c.take.new.held) taken;
     }
 
 pub returns-in_err-take-in-Known-clause-read : goal.returns-in_err-take-in-Known-clause-read
@@ -75,8 +101,14 @@ returns-in_err-take-in-Known-clause-read g c =
     let next = c.in_ok-field.ensures in
     let key = field_named names (fields old.formats) i.so_far c.in_ok-field.field-0 c.in-Some.field c.in-Some.is refl c.next_key.new.remaining next.read next.settings.formats next.settings.levels in
     let now = c.next_key.new.de.decoder in
+    let kept = c.take_at_hand.new.de.decoder in
+    let none = c.take_at_hand.ensures in
     let e = c.in_err-take-in-Known.field-0.0 in
-    let refused = subst (λ (f : Formats). FieldRefused (formats_of now.formats) now.levels g.R.Source.refusals (fields f) c.in-Known.i (slots f c.fields.held) (g.R.Source.source now.source) (g.R.Source.source c.take.new.de.decoder.source) e) (next.settings.formats ∙ i.formats) c.in_err-take-in-Known.ensures.read in
+    let here : g.R.Source.source kept.source ≡ g.R.Source.source now.source = rw c.if-take_at_hand.false at none.read in
+    let held : c.take_at_hand.new.held ≡ c.fields.held = rw c.if-take_at_hand.false at none.held in
+    let t = g.R.Source.source c.take.new.de.decoder.source in
+    let read = taken_from fields slots g.R.Source.refusals now.formats kept.formats none.settings.formats now.levels kept.levels none.settings.levels c.fields.held c.take_at_hand.new.held c.take.new.held held (g.R.Source.source now.source) (g.R.Source.source kept.source) t here c.in-Known.i (Err e) c.in_err-take-in-Known.ensures.read in
+    let refused = subst (λ (f : Formats). FieldRefused (formats_of now.formats) now.levels g.R.Source.refusals (fields f) c.in-Known.i (slots f c.fields.held) (g.R.Source.source now.source) t e) (next.settings.formats ∙ i.formats) read in
     unread names (fields old.formats) g.R.Source.refusals old.formats old.levels (g.R.Source.source old.source) _ e c.from_residual-in_err-take-in-Known.result c.from_residual-in_err-take-in-Known.ensures.1
     (value_not_in names (fields old.formats) key c.in-Known.i c.in-Known.is g.R.Source.refusals e refused) (search rules)
 
@@ -151,8 +183,13 @@ returns-in_err-take-in-Known-clause-form g c =
     let i = c.fields.invariant in
     let e = c.in_err-take-in-Known.field-0.0 in
     let next = c.in_ok-field.ensures in
+    let none = c.take_at_hand.ensures in
+    let now = c.next_key.new.de.decoder in
+    let kept = c.take_at_hand.new.de.decoder in
+    let here : g.R.Source.source kept.source ≡ g.R.Source.source now.source = rw c.if-take_at_hand.false at none.read in
     let took = took_then (took_then i.so_far.head.took i.so_far.so_far.took) next.read.took in
-    rw (passed.1, passed.2) (later_in (any_of key_form g.F.FieldList.wrong_forms) c.args.de.now.decoder.formats c.next_key.new.de.decoder.formats _ _ e (next.settings.formats ∙ i.formats) took c.in_err-take-in-Known.ensures.form)
+    let form = subst (λ (x : Input). MayReport (any_of key_form g.F.FieldList.wrong_forms) (formats_of kept.formats) x e) here c.in_err-take-in-Known.ensures.form in
+    rw (passed.1, passed.2) (later_in (any_of key_form g.F.FieldList.wrong_forms) c.args.de.now.decoder.formats kept.formats _ _ e (none.settings.formats ∙ next.settings.formats ∙ i.formats) took form)
 
 pub returns-in_err-skip_item-in-Unknown-clause-form : goal.returns-in_err-skip_item-in-Unknown-clause-form
 returns-in_err-skip_item-in-Unknown-clause-form g c =

@@ -1,25 +1,20 @@
-use Rattle.std.proofs.Common.{◌≡◌, false, Err}
+use Rattle.std.proofs.Common.{◌≡◌, false}
 use Rattle.std.specs.Option.{is_some}
 use Rattle.cbor_model.specs.Reader.{item_at}
 use Rattle.cbor_io.specs.Error.{code_of, offset_of}
-use Rattle.cbor_decode.specs.declared.formats.Formats.{Formats}
 use Rattle.cbor_decode_as.specs.Takes.{IsNotRead, context, formats_of, raws}
 use Rattle.cbor_decode_as.proofs.facts.Readings.{refuses_map}
-use Rattle.cbor_de.proofs.facts.Readings.{read_here}
 use Rattle.cbor_described.proofs.Makings.{not_read_as}
 use Rattle.cbor_described.proofs.field_list.fill_slot.Goals as goal
 
 pub returns-in-Err-clause-read : goal.returns-in-Err-clause-read
 returns-in-Err-clause-read g c =
     let old = c.args.de.now.decoder in
-    let same = c.at_hand.new.de.decoder in
-    let none = c.in_default.ensures in
     let k = context old.formats g.R.Source.lends in
     let f = formats_of old.formats in
     let reads = g.A.FieldType.reads k in
     let s = g.R.Source.source old.source in
-    let t = g.R.Source.source c.deserialize.new.de.decoder.source in
     let e = c.in-Err.e in
-    let unread = read_here old.formats same.formats none.settings.formats s (g.R.Source.source same.source) none.read g.R.Source.refusals (λ (h : Formats). g.A.Of.Readable.reads (context h g.R.Source.lends)) old.levels same.levels none.settings.levels t (Err e) c.in-Err.ensures.read in
     refuses_map g.R.Source.refusals s (code_of e) (offset_of e) (λ l bs. IsNotRead reads (item_at (raws f l) old.levels bs)) (λ l bs. is_some c.args.slot.now ≡ false → IsNotRead reads (item_at (raws f l) old.levels bs)) (λ l bs unread none. unread)
-    (not_read_as (g.A.Of.Readable.reads k) reads g.R.Source.refusals f old.levels s t e (λ r y h. g.met.A.FieldType.back k r y h) unread)
+    (not_read_as (g.A.Of.Readable.reads k) reads g.R.Source.refusals f old.levels s (g.R.Source.source c.deserialize.new.de.decoder.source)
+    e (λ r y h. g.met.A.FieldType.back k r y h) c.in-Err.ensures.read)

@@ -1,7 +1,11 @@
+use Rattle.std.proofs.Common.{Err}
 use Rattle.std.proofs.lemmas.Result.{err_from_is_err_and}
+use Rattle.cbor_model.specs.Readable.{PassesTags}
 use Rattle.cbor_io.specs.Error.{code_of, offset_of}
-use Rattle.cbor_decode_as.specs.Identifiers.{texts}
+use Rattle.cbor_decode.specs.declared.formats.Formats.{Formats}
+use Rattle.cbor_decode_as.specs.Identifiers.{IsIdentifier, texts}
 use Rattle.cbor_decode_as.specs.Takes.{formats_of}
+use Rattle.cbor_de.proofs.AtHand.{read_here}
 use Rattle.cbor_de.proofs.FieldNames.{no_field}
 use Rattle.cbor_de.proofs.de.Deserializer.field.Goals as goal
 
@@ -9,4 +13,9 @@ pub returns-in_err-place-clause-read : goal.returns-in_err-place-clause-read
 returns-in_err-place-clause-read g c =
     let passed = err_from_is_err_and c.from_residual.result c.from_residual.ensures.1 in
     let old = c.args.self.now.decoder in
-    rw (passed.1, passed.2) (λ e made. no_field (texts c.args.names.now) g.R.Source.refusals (formats_of old.formats) old.levels (g.R.Source.source old.source) (code_of e) (offset_of e) (c.in_err-place.ensures.read e made))
+    let same = c.from_zero_at_hand.new.decoder in
+    let none = c.in_default.ensures in
+    let names = texts c.args.names.now in
+    let s = g.R.Source.source old.source in
+    rw (passed.1, passed.2) (λ e made. no_field names g.R.Source.refusals (formats_of old.formats) old.levels s (code_of e) (offset_of e)
+    (read_here old.formats same.formats none.settings.formats s (g.R.Source.source same.source) none.read g.R.Source.refusals (λ (f : Formats). PassesTags (IsIdentifier names)) old.levels same.levels none.settings.levels (g.R.Source.source c.identifier.new.decoder.source) (Err e) (c.in_err-place.ensures.read e made)))

@@ -1,0 +1,22 @@
+use Rattle.std.proofs.Common.{[], ◌∷◌, ◌≡◌, ◌+◌, ◌-◌, arith}
+use Rattle.cbor_de.specs.Structs.{field_or}
+use Rattle.cbor_decode_as.specs.Takes.{context, formats_of}
+use Rattle.cbor_described.specs.FieldLists.{over, slots_over}
+use Rattle.cbor_described.proofs.FieldLists.{slot_here, others_here}
+use Rattle.cbor_described.proofs.field_list.Tuple2ReadFields.take_at_hand.Goals as goal
+
+pub returns-then-i-ne0-clause-read : goal.returns-then-i-ne0-clause-read
+returns-then-i-ne0-clause-read g c =
+    let old = c.args.de.now.decoder in
+    let k = context old.formats g.R.Source.lends in
+    let i = c.args.i in
+    let place : i ≡ 1 + (i - 1) = omega (arith, c.if-i-ne0.true) in
+    others_here (formats_of old.formats) old.levels g.R.Source.refusals (λ p. p.1) (g.F.FieldList.fields k) (field_or (g.A.FieldType.reads k) g.A.FieldType.missing (λ p. p.0) ∷ []) i (i - 1) place (c.args.held.now.0, tt)
+    (g.F.FieldList.slots k c.args.held.now.1) _ (g.R.Source.source old.source) _ c.take_at_hand.result c.take_at_hand.ensures.read
+
+pub returns-clause-read : goal.returns-clause-read
+returns-clause-read g c =
+    let old = c.args.de.now.decoder in
+    let k = context old.formats g.R.Source.lends in
+    slot_here (formats_of old.formats) old.levels g.R.Source.refusals [] (field_or (g.A.FieldType.reads k) g.A.FieldType.missing (λ p. p.0)) (over (λ p. p.1) (g.F.FieldList.fields k)) c.args.i c.if-i-ne0.false tt
+    c.args.held.now.0 _ (slots_over (λ p. p.1) (g.F.FieldList.fields k) (g.F.FieldList.slots k c.args.held.now.1)) (g.R.Source.source old.source) _ c.slot_at_hand.result c.slot_at_hand.ensures.read

@@ -1,0 +1,48 @@
+use Rattle.std.proofs.Common.{[], ◌∷◌, ◌≡◌, ◌+◌, ◌-◌, arith}
+use Rattle.cbor_de.specs.Structs.{field_or}
+use Rattle.cbor_decode_as.specs.Takes.{context, formats_of}
+use Rattle.cbor_described.specs.FieldLists.{over, slots_over}
+use Rattle.cbor_described.proofs.FieldLists.{slot_here, others_here}
+use Rattle.cbor_described.proofs.field_list.Tuple5ReadFields.take_at_hand.Goals as goal
+
+pub returns-in-0-clause-read : goal.returns-in-0-clause-read
+returns-in-0-clause-read g c =
+    let old = c.args.de.now.decoder in
+    let k = context old.formats g.R.Source.lends in
+    let held = c.args.held.now in
+    slot_here (formats_of old.formats) old.levels g.R.Source.refusals [] (field_or (g.A.FieldType.reads k) g.A.FieldType.missing (λ p. p.0)) (field_or (g.B.FieldType.reads k) g.B.FieldType.missing (λ p. p.1) ∷ field_or (g.C.FieldType.reads k) g.C.FieldType.missing (λ p. p.2) ∷ field_or (g.D.FieldType.reads k) g.D.FieldType.missing (λ p. p.3) ∷ over (λ p. p.4) (g.F.FieldList.fields k)) c.args.i (c.in-0.is) tt
+    held.0 _ (held.1, (held.2, (held.3, slots_over (λ p. p.4) (g.F.FieldList.fields k) (g.F.FieldList.slots k held.4)))) (g.R.Source.source old.source) _ c.slot_at_hand.result c.slot_at_hand.ensures.read
+
+pub returns-in-1-clause-read : goal.returns-in-1-clause-read
+returns-in-1-clause-read g c =
+    let old = c.args.de.now.decoder in
+    let k = context old.formats g.R.Source.lends in
+    let held = c.args.held.now in
+    slot_here (formats_of old.formats) old.levels g.R.Source.refusals (field_or (g.A.FieldType.reads k) g.A.FieldType.missing (λ p. p.0) ∷ []) (field_or (g.B.FieldType.reads k) g.B.FieldType.missing (λ p. p.1)) (field_or (g.C.FieldType.reads k) g.C.FieldType.missing (λ p. p.2) ∷ field_or (g.D.FieldType.reads k) g.D.FieldType.missing (λ p. p.3) ∷ over (λ p. p.4) (g.F.FieldList.fields k)) c.args.i (c.in-1.is) (held.0, tt)
+    held.1 _ (held.2, (held.3, slots_over (λ p. p.4) (g.F.FieldList.fields k) (g.F.FieldList.slots k held.4))) (g.R.Source.source old.source) _ c.slot_at_hand-in-1.result c.slot_at_hand-in-1.ensures.read
+
+pub returns-in-2-clause-read : goal.returns-in-2-clause-read
+returns-in-2-clause-read g c =
+    let old = c.args.de.now.decoder in
+    let k = context old.formats g.R.Source.lends in
+    let held = c.args.held.now in
+    slot_here (formats_of old.formats) old.levels g.R.Source.refusals (field_or (g.A.FieldType.reads k) g.A.FieldType.missing (λ p. p.0) ∷ field_or (g.B.FieldType.reads k) g.B.FieldType.missing (λ p. p.1) ∷ []) (field_or (g.C.FieldType.reads k) g.C.FieldType.missing (λ p. p.2)) (field_or (g.D.FieldType.reads k) g.D.FieldType.missing (λ p. p.3) ∷ over (λ p. p.4) (g.F.FieldList.fields k)) c.args.i (c.in-2.is) (held.0, (held.1, tt))
+    held.2 _ (held.3, slots_over (λ p. p.4) (g.F.FieldList.fields k) (g.F.FieldList.slots k held.4)) (g.R.Source.source old.source) _ c.slot_at_hand-in-2.result c.slot_at_hand-in-2.ensures.read
+
+pub returns-in-3-clause-read : goal.returns-in-3-clause-read
+returns-in-3-clause-read g c =
+    let old = c.args.de.now.decoder in
+    let k = context old.formats g.R.Source.lends in
+    let held = c.args.held.now in
+    slot_here (formats_of old.formats) old.levels g.R.Source.refusals (field_or (g.A.FieldType.reads k) g.A.FieldType.missing (λ p. p.0) ∷ field_or (g.B.FieldType.reads k) g.B.FieldType.missing (λ p. p.1) ∷ field_or (g.C.FieldType.reads k) g.C.FieldType.missing (λ p. p.2) ∷ []) (field_or (g.D.FieldType.reads k) g.D.FieldType.missing (λ p. p.3)) (over (λ p. p.4) (g.F.FieldList.fields k)) c.args.i (c.in-3.is) (held.0, (held.1, (held.2, tt)))
+    held.3 _ (slots_over (λ p. p.4) (g.F.FieldList.fields k) (g.F.FieldList.slots k held.4)) (g.R.Source.source old.source) _ c.slot_at_hand-in-3.result c.slot_at_hand-in-3.ensures.read
+
+pub returns-in_default-clause-read : goal.returns-in_default-clause-read
+returns-in_default-clause-read g c =
+    let old = c.args.de.now.decoder in
+    let k = context old.formats g.R.Source.lends in
+    let held = c.args.held.now in
+    let i = c.args.i in
+    let place : i ≡ 4 + (i - 4) = omega (arith, c.in_default) in
+    others_here (formats_of old.formats) old.levels g.R.Source.refusals (λ p. p.4) (g.F.FieldList.fields k) (field_or (g.A.FieldType.reads k) g.A.FieldType.missing (λ p. p.0) ∷ field_or (g.B.FieldType.reads k) g.B.FieldType.missing (λ p. p.1) ∷ field_or (g.C.FieldType.reads k) g.C.FieldType.missing (λ p. p.2) ∷ field_or (g.D.FieldType.reads k) g.D.FieldType.missing (λ p. p.3) ∷ []) i (i - 4) place (held.0, (held.1, (held.2, (held.3, tt))))
+    (g.F.FieldList.slots k held.4) _ (g.R.Source.source old.source) _ c.take_at_hand.result c.take_at_hand.ensures.read
