@@ -1,0 +1,10 @@
+pub mod Lasts
+pub mod GoesOn
+pub mod Opened
+pub mod Chunked
+pub mod Ended
+pub mod Standing
+pub mod Found
+pub mod ForGood
+pub mod Told
+pub mod Pushed

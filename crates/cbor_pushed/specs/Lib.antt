@@ -1,0 +1,3 @@
+pub mod ItemAtFront
+pub mod Rests
+pub mod Scanned
