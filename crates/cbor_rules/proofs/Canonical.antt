@@ -1,6 +1,6 @@
 -- An item keeps the canonical rules exactly where it is the canonical item of its value.
-use Rattle.std.proofs.Common.{pos, negsuc, ◌≡◌, ℕ, ◌+◌, ◌^◌, ◌<◌, ◌≤◌, Bool, true, false, ltb, List, [], ◌∷◌, ◌++◌, length, Ordering, Less, Equal, Greater, refl, sym, ap, ap₂, subst, ◌∙◌, arith}
-use Rattle.std.specs.Prelude.{◌&&◌, not, ◌==◌}
+use Rattle.std.proofs.Common.{pos, negsuc, ◌≡◌, ℕ, ◌+◌, ◌^◌, ◌<◌, ◌≤◌, Bool, true, false, ltb, List, [], ◌∷◌, ◌++◌, length, None, Ordering, Less, Equal, Greater, refl, sym, ap, ap₂, subst, ◌∙◌, arith}
+use Rattle.std.specs.Prelude.{◌&&◌, ◌||◌, not, ◌==◌}
 use Rattle.std.specs.List.{AllByRecursion}
 use Rattle.std.proofs.lemmas.Bool.{lt-ltb, le-ltb, ltb-false, cond_both}
 use Rattle.std.proofs.lemmas.List.{append-nil}
@@ -19,15 +19,15 @@ use Rattle.cbor_model.specs.Canonical.{canonical_bool, canonical, canonical_all,
 use Rattle.cbor_model.proofs.facts.Canonical.{count_canonical, pair_count_canonical}
 use Rattle.cbor_model.proofs.facts.Laws.{byte_order, one_spelling, value_is_canonical, value_is_storable}
 use Rattle.cbor_model.proofs.facts.Maps.{put_all-ascending}
-use Rattle.cbor_rules.specs.Features.{Feature, number, simple_item, float_bits, key, Place, head_end, features, all_features, pair_features}
+use Rattle.cbor_rules.specs.Features.{Feature, number, simple_item, float_bits, key, nth_item, chunk_to, Place, head_end, features, all_features, pair_features}
 use Rattle.cbor_rules.specs.Presets as presets
 use Rattle.cbor_rules.specs.Presets.{IsCanonicalOf, WrittenIsAccepted, AcceptedIsWritten}
-use Rattle.cbor_rules.specs.Rules.{latest, only, floor, is_less, is_unique, key_cmp, breaks, Keeps}
+use Rattle.cbor_rules.specs.Rules.{Terms, latest, only, floor, is_less, is_unique, key_cmp, breaks, Keeps}
 use Rattle.cbor_rules.specs.declared.settings.Rules.{Rules}
 use Rattle.cbor_rules.specs.declared.settings.KeyOrder.{KeyOrder}
 use Rattle.cbor_rules.specs.declared.settings.KeyOrder.TheVariants.{Bytewise}
 use Rattle.cbor_rules.specs.declared.settings.Rule.{Rule}
-use Rattle.cbor_rules.specs.declared.settings.Rule.TheVariants.{ShortestHeads, DefiniteLengths, PlainKeys, AscendingKeys, UniqueKeys, ReducedNumbers, ShortestFloats, OneNan, NoUndefined, NoTags}
+use Rattle.cbor_rules.specs.declared.settings.Rule.TheVariants.{ShortestHeads, DefiniteLengths, PlainKeys, AscendingKeys, UniqueKeys, ReducedNumbers, ShortestFloats, OneNan, NoUndefined, NoTags, MostItems, MostPairs, MostBytes}
 
 -- ---- places
 
@@ -232,6 +232,22 @@ mutual
 
 -- ---- and the canonical item of an ordered value keeps them
 
+-- where there are no limits, no feature breaks them
+pub items_free : (terms : Terms) (f : Feature) → terms.rules.most_items ≡ None → breaks terms MostItems f ≡ false
+items_free terms (number m w n) none = rw none (and_false (m == 4))
+items_free terms (nth_item earlier) none = rw none refl
+items_free terms _ none = refl
+
+pub pairs_free : (terms : Terms) (f : Feature) → terms.rules.most_pairs ≡ None → breaks terms MostPairs f ≡ false
+pairs_free terms (number m w n) none = rw none (and_false (m == 5))
+pairs_free terms (key earlier k) none = rw none refl
+pairs_free terms _ none = refl
+
+pub bytes_free : (terms : Terms) (f : Feature) → terms.rules.most_bytes ≡ None → breaks terms MostBytes f ≡ false
+bytes_free terms (number m w n) none = rw none (and_false ((m == 2) || (m == 3)))
+bytes_free terms (chunk_to n) none = rw none refl
+bytes_free terms _ none = refl
+
 -- likewise with another order of keys
 abbrev pub by_keys : KeyOrder → Rules
 by_keys order = record presets.canonical { keys = order }
@@ -247,6 +263,9 @@ number_fine order major n ReducedNumbers = refl
 number_fine order major n ShortestFloats = refl
 number_fine order major n OneNan = refl
 number_fine order major n NoUndefined = refl
+number_fine order major n MostItems = items_free (only (by_keys order)) (number major (least n) n) refl
+number_fine order major n MostPairs = pairs_free (only (by_keys order)) (number major (least n) n) refl
+number_fine order major n MostBytes = bytes_free (only (by_keys order)) (number major (least n) n) refl
 
 pub float_fine : (order : KeyOrder) (w : raw.FloatWidth) (bits : ℕ) → IsFine (by_keys order) (float_bits w bits)
 float_fine order w bits ShortestHeads = refl
@@ -259,6 +278,9 @@ float_fine order w bits ReducedNumbers = refl
 float_fine order w bits ShortestFloats = refl
 float_fine order w bits OneNan = refl
 float_fine order w bits NoUndefined = refl
+float_fine order w bits MostItems = items_free (only (by_keys order)) (float_bits w bits) refl
+float_fine order w bits MostPairs = pairs_free (only (by_keys order)) (float_bits w bits) refl
+float_fine order w bits MostBytes = bytes_free (only (by_keys order)) (float_bits w bits) refl
 
 pub key_fine : (order : KeyOrder) (earlier : List (List ℕ)) (k : List ℕ) → is_unique order ≡ false → key_cmp order (latest earlier) k ≡ Less → IsFine (by_keys order) (key earlier k)
 key_fine order earlier k apart is ShortestHeads = refl
@@ -271,6 +293,9 @@ key_fine order earlier k apart is ReducedNumbers = refl
 key_fine order earlier k apart is ShortestFloats = refl
 key_fine order earlier k apart is OneNan = refl
 key_fine order earlier k apart is NoUndefined = refl
+key_fine order earlier k apart is MostItems = items_free (only (by_keys order)) (key earlier k) refl
+key_fine order earlier k apart is MostPairs = pairs_free (only (by_keys order)) (key earlier k) refl
+key_fine order earlier k apart is MostBytes = bytes_free (only (by_keys order)) (key earlier k) refl
 
 -- of what is written for a value
 abbrev pub IsWritten : raw.Simple → Type 0
@@ -280,6 +305,9 @@ IsWritten _ = Unit {0}
 pub simple_fine : (order : KeyOrder) (s : raw.Simple) → IsWritten s → IsFine (by_keys order) (simple_item s)
 simple_fine order s is ShortestHeads = refl
 simple_fine order s is NoTags = refl
+simple_fine order s is MostItems = items_free (only (by_keys order)) (simple_item s) refl
+simple_fine order s is MostPairs = pairs_free (only (by_keys order)) (simple_item s) refl
+simple_fine order s is MostBytes = bytes_free (only (by_keys order)) (simple_item s) refl
 simple_fine order s is DefiniteLengths = refl
 simple_fine order s is PlainKeys = refl
 simple_fine order s is AscendingKeys = refl

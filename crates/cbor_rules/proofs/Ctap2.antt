@@ -23,9 +23,9 @@ use Rattle.cbor_rules.specs.Presets.{defined, IsPlain, IsForCtap2, AreForCtap2, 
 use Rattle.cbor_rules.specs.Rules.{latest, only, breaks, is_compound, is_less, key_cmp, major}
 use Rattle.cbor_rules.specs.declared.settings.Rules.{Rules}
 use Rattle.cbor_rules.specs.declared.settings.KeyOrder.TheVariants.{TypeFirst}
-use Rattle.cbor_rules.specs.declared.settings.Rule.TheVariants.{ShortestHeads, DefiniteLengths, PlainKeys, AscendingKeys, UniqueKeys, ReducedNumbers, ShortestFloats, OneNan, NoUndefined, NoTags}
+use Rattle.cbor_rules.specs.declared.settings.Rule.TheVariants.{ShortestHeads, DefiniteLengths, PlainKeys, AscendingKeys, UniqueKeys, ReducedNumbers, ShortestFloats, OneNan, NoUndefined, NoTags, MostItems, MostPairs, MostBytes}
 use Rattle.cbor_rules.proofs.Canonical as canonical
-use Rattle.cbor_rules.proofs.Canonical.{IsFine, AreFine, kept_fine, fine_kept, first_fine, rest_fine, both_fine, and_false, less, first_above, clean, in_range}
+use Rattle.cbor_rules.proofs.Canonical.{IsFine, AreFine, kept_fine, fine_kept, first_fine, rest_fine, both_fine, and_false, items_free, pairs_free, bytes_free, less, first_above, clean, in_range}
 use Rattle.cbor_rules.proofs.Deterministic.{fine_too}
 use Rattle.cbor_rules.proofs.LengthFirstItems.{first_after}
 use Rattle.cbor_rules.proofs.TypeOrder.{head_major, major-is, type_first}
@@ -41,6 +41,9 @@ to_canonical f fine up ShortestHeads = fine ShortestHeads
 to_canonical f fine up DefiniteLengths = fine DefiniteLengths
 to_canonical f fine up NoUndefined = fine NoUndefined
 to_canonical f fine up AscendingKeys = up
+to_canonical f fine up MostItems = items_free (only presets.canonical) f refl
+to_canonical f fine up MostPairs = pairs_free (only presets.canonical) f refl
+to_canonical f fine up MostBytes = bytes_free (only presets.canonical) f refl
 to_canonical (key earlier k) fine up UniqueKeys = refl
 to_canonical _ fine up UniqueKeys = refl
 to_canonical (key earlier k) fine up PlainKeys = refl
@@ -62,6 +65,9 @@ from_canonical f fine untagged plain up NoUndefined = fine NoUndefined
 from_canonical f fine untagged plain up NoTags = untagged
 from_canonical f fine untagged plain up PlainKeys = plain
 from_canonical f fine untagged plain up AscendingKeys = up
+from_canonical f fine untagged plain up MostItems = items_free (only all) f refl
+from_canonical f fine untagged plain up MostPairs = pairs_free (only all) f refl
+from_canonical f fine untagged plain up MostBytes = bytes_free (only all) f refl
 from_canonical (key earlier k) fine untagged plain up UniqueKeys = refl
 from_canonical _ fine untagged plain up UniqueKeys = refl
 from_canonical (number_of m w n) fine untagged plain up ReducedNumbers = refl
@@ -331,6 +337,9 @@ not_defined (simple_item undefined_item) fine NoUndefined = refl
 not_defined (simple_item _) fine NoUndefined = refl
 not_defined _ fine NoUndefined = refl
 not_defined f fine NoTags = fine NoTags
+not_defined f fine MostItems = fine MostItems
+not_defined f fine MostPairs = fine MostPairs
+not_defined f fine MostBytes = fine MostBytes
 
 pub written_is_accepted : WrittenIsAccepted presets.ctap2 IsCtap2Of
 written_is_accepted bs v short spelt is =

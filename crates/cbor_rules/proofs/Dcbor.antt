@@ -1,6 +1,6 @@
 -- An item keeps dCBOR's rules exactly where it is the deterministic item of a value whose numbers are
 -- reduced.
-use Rattle.std.proofs.Common.{◌∷◌, ◌≡◌, ◌∙◌, ℕ, ◌+◌, ◌^◌, true, false, pos, negsuc, ℤ, List, []}
+use Rattle.std.proofs.Common.{◌∷◌, ◌≡◌, ◌∙◌, ℕ, suc, ◌+◌, ◌^◌, true, false, pos, negsuc, ℤ, List, []}
 use Rattle.std.proofs.Common.{length, Ordering, Less, Equal, Greater, refl, sym, ap, subst}
 use Rattle.std.proofs.lemmas.Bool.{leb-false, lt-leb}
 use Rattle.std.specs.Prelude.{◌==◌, nat_lt, is_some, Option, Some, None}
@@ -8,7 +8,7 @@ use Rattle.cbor_model.specs.Order.{val_cmp}
 use Rattle.cbor_model.specs.Plain.{Val, null, bool, integer, float, bytes, text, array, map, tag}
 use Rattle.cbor_model.specs.Plain.{Vals, no_vals, val, Pairs, no_pairs, pair}
 use Rattle.cbor_model.specs.Raw as raw
-use Rattle.cbor_model.specs.Raw.{FloatWidth, Raw, Raws, no_raws, RawPairs, no_raw_pairs, raw_pair}
+use Rattle.cbor_model.specs.Raw.{FloatWidth, definite, indefinite, Raw, Raws, no_raws, RawPairs, no_raw_pairs, raw_pair}
 use Rattle.cbor_model.specs.Raw.{false_item, true_item, null_item, undefined_item}
 use Rattle.cbor_model.specs.Spelling.{spell}
 use Rattle.cbor_model.specs.Value.{value, values, pairs, put, by_order}
@@ -24,8 +24,8 @@ use Rattle.cbor_forms.specs.Shortened.{shortened, reduced, rewritten, all_rewrit
 use Rattle.cbor_forms.specs.Shortened.{Allows, AllowsAll, AllowsPairs}
 use Rattle.cbor_forms.specs.declared.values.Form.TheVariants.{Dcbor}
 use Rattle.cbor_rules.specs.Features.{Feature, number as number_of, indefinite_length, simple_item}
-use Rattle.cbor_rules.specs.Features.{float_bits, key, head_end, length_end, features}
-use Rattle.cbor_rules.specs.Features.{all_features, pair_features}
+use Rattle.cbor_rules.specs.Features.{float_bits, key, nth_item, place, head_end, length_end, features}
+use Rattle.cbor_rules.specs.Features.{all_features, open_features, pair_features}
 use Rattle.cbor_rules.specs.Presets as presets
 use Rattle.cbor_rules.specs.Presets.{WrittenIsAccepted, AcceptedIsWritten, IsDcborOf, defined}
 use Rattle.cbor_rules.specs.Presets.{HasReducedNumbers, HaveReducedNumbers, PairsHaveReducedNumbers}
@@ -35,10 +35,10 @@ use Rattle.cbor_rules.specs.declared.settings.Rules.{Rules}
 use Rattle.cbor_rules.specs.declared.settings.Rule.TheVariants.{ShortestHeads, DefiniteLengths}
 use Rattle.cbor_rules.specs.declared.settings.Rule.TheVariants.{PlainKeys, AscendingKeys, UniqueKeys, OneNan}
 use Rattle.cbor_rules.specs.declared.settings.Rule.TheVariants.{ReducedNumbers, ShortestFloats}
-use Rattle.cbor_rules.specs.declared.settings.Rule.TheVariants.{NoUndefined, NoTags}
+use Rattle.cbor_rules.specs.declared.settings.Rule.TheVariants.{NoUndefined, NoTags, MostItems, MostPairs, MostBytes}
 use Rattle.cbor_rules.proofs.Canonical as canonical
 use Rattle.cbor_rules.proofs.Canonical.{IsFine, AreFine, kept_fine, fine_kept, first_fine, rest_fine}
-use Rattle.cbor_rules.proofs.Canonical.{both_fine, and_false}
+use Rattle.cbor_rules.proofs.Canonical.{both_fine, and_false, items_free, pairs_free, bytes_free}
 use Rattle.cbor_rules.proofs.Deterministic as deterministic
 use Rattle.cbor_rules.proofs.Deterministic.{ApartFloats, fine_too, fine_both, float_shortened}
 use Rattle.cbor_rules.proofs.Deterministic.{put_all_short}
@@ -66,6 +66,9 @@ is_deterministic f fine ShortestFloats = fine ShortestFloats
 is_deterministic f fine OneNan = fine OneNan
 is_deterministic f fine NoUndefined = fine NoUndefined
 is_deterministic f fine NoTags = fine NoTags
+is_deterministic f fine MostItems = fine MostItems
+is_deterministic f fine MostPairs = fine MostPairs
+is_deterministic f fine MostBytes = fine MostBytes
 
 is_dcbor : (f : Feature) → IsFine others f → IsFine reduced_only f → IsFine presets.dcbor f
 is_dcbor f one other ShortestHeads = one ShortestHeads
@@ -78,10 +81,16 @@ is_dcbor f one other ShortestFloats = one ShortestFloats
 is_dcbor f one other OneNan = one OneNan
 is_dcbor f one other NoUndefined = one NoUndefined
 is_dcbor f one other NoTags = one NoTags
+is_dcbor f one other MostItems = one MostItems
+is_dcbor f one other MostPairs = one MostPairs
+is_dcbor f one other MostBytes = one MostBytes
 
 -- that rule is kept where it is on
 reduced_fine : (f : Feature) → breaks (only reduced_only) ReducedNumbers f ≡ false → IsFine reduced_only f
 reduced_fine f one ReducedNumbers = one
+reduced_fine f one MostItems = items_free (only reduced_only) f refl
+reduced_fine f one MostPairs = pairs_free (only reduced_only) f refl
+reduced_fine f one MostBytes = bytes_free (only reduced_only) f refl
 reduced_fine (number_of m w n) one ShortestHeads = and_false (nat_lt n (floor w))
 reduced_fine _ one ShortestHeads = refl
 reduced_fine (number_of m w n) one NoTags = and_false (m == 6)
@@ -143,8 +152,9 @@ mutual
   kept_numbers at (raw.text c) fine = tt
   kept_numbers at (raw.bytes_chunks cs) fine = tt
   kept_numbers at (raw.text_chunks cs) fine = tt
-  kept_numbers at (raw.array l rs) fine =
-      all_kept_numbers (length_end at 4 l (raw.count rs)) rs fine.1
+  kept_numbers at (raw.array (definite w) rs) fine =
+      all_kept_numbers (head_end at 4 w (raw.count rs)) rs fine.1
+  kept_numbers at (raw.array indefinite rs) fine = open_kept_numbers (suc at) 0 rs fine.1
   kept_numbers at (raw.map l ps) fine =
       pairs_kept_numbers (length_end at 5 l (raw.pair_count ps)) [] ps no_pairs fine.1 tt
   kept_numbers at (raw.tag w n r) fine = kept_numbers (head_end at 6 w n) r fine.1
@@ -160,6 +170,17 @@ mutual
         kept_numbers at r (first_fine reduced_only (features at r) (all_features more rs) fine),
         all_kept_numbers more rs
             (rest_fine reduced_only (features at r) (all_features more rs) fine),
+      )
+
+  open_kept_numbers : (at earlier : ℕ) (rs : Raws)
+      → AreFine reduced_only (open_features at earlier rs) → HaveReducedNumbers (values rs)
+  open_kept_numbers at earlier no_raws fine = tt
+  open_kept_numbers at earlier (raw.raw r rs) fine =
+      let more = at + length (spell r) in
+      let behind = place more (nth_item earlier) ∷ open_features more (earlier + 1) rs in (
+        kept_numbers at r (first_fine reduced_only (features at r) behind fine),
+        open_kept_numbers more (earlier + 1) rs
+            (rest_fine reduced_only (features at r) behind fine).1,
       )
 
   pairs_kept_numbers : (at : ℕ) (earlier : List (List ℕ)) (ps : RawPairs) (onto : Pairs)

@@ -1,5 +1,5 @@
 -- An item keeps the deterministic rules exactly where it is the canonical item of its value, with floats at their shortest.
-use Rattle.std.proofs.Common.{false, pos, negsuc, ◌≡◌, ◌∙◌, ℕ, ◌+◌, true, List, [], ◌∷◌, length, Ordering, Less, Equal, Greater, refl, sym, ap, subst}
+use Rattle.std.proofs.Common.{false, pos, negsuc, ◌≡◌, ◌∙◌, ℕ, suc, ◌+◌, true, List, [], ◌∷◌, length, Ordering, Less, Equal, Greater, refl, sym, ap, subst}
 use Rattle.std.specs.Prelude.{◌==◌, ◌↔◌, nat_lt}
 use Rattle.cbor_model.specs.Order.{val_cmp}
 use Rattle.cbor_model.specs.Plain.{Val, null, bool, integer, float, bytes, text, array, map, tag, Vals, no_vals, val, Pairs, no_pairs, pair}
@@ -17,16 +17,16 @@ use Rattle.cbor_value.specs.declared.Float.{Float}
 use Rattle.cbor_value.specs.declared.Float.TheVariants.{Half}
 use Rattle.cbor_forms.specs.Shortened.{shortened, rewritten, all_rewritten, pairs_rewritten}
 use Rattle.cbor_forms.specs.declared.values.Form.TheVariants.{Core}
-use Rattle.cbor_rules.specs.Features.{Feature, number as number_of, indefinite_length, simple_item, float_bits, key, Place, head_end, length_end, features, all_features, pair_features}
+use Rattle.cbor_rules.specs.Features.{Feature, number as number_of, indefinite_length, simple_item, float_bits, key, nth_item, chunk_to, Place, place, head_end, length_end, features, all_features, open_features, pair_features}
 use Rattle.cbor_rules.specs.Presets as presets
 use Rattle.cbor_rules.specs.Presets.{WrittenIsAccepted, AcceptedIsWritten, IsDeterministicOf, IsShortest, HasShortestFloats, HaveShortestFloats, PairsHaveShortestFloats, ShortenedHasShortestFloats, defined}
 use Rattle.cbor_rules.specs.Rules.{only, breaks, floor}
 use Rattle.cbor_rules.specs.declared.settings.Rules.{Rules}
 use Rattle.cbor_rules.specs.declared.settings.KeyOrder.{KeyOrder}
 use Rattle.cbor_rules.specs.declared.settings.KeyOrder.TheVariants.{Bytewise}
-use Rattle.cbor_rules.specs.declared.settings.Rule.TheVariants.{ShortestHeads, DefiniteLengths, PlainKeys, AscendingKeys, UniqueKeys, ReducedNumbers, ShortestFloats, OneNan, NoUndefined, NoTags}
+use Rattle.cbor_rules.specs.declared.settings.Rule.TheVariants.{ShortestHeads, DefiniteLengths, PlainKeys, AscendingKeys, UniqueKeys, ReducedNumbers, ShortestFloats, OneNan, NoUndefined, NoTags, MostItems, MostPairs, MostBytes}
 use Rattle.cbor_rules.proofs.Canonical as canonical
-use Rattle.cbor_rules.proofs.Canonical.{IsFine, AreFine, by_keys, kept_fine, fine_kept, first_fine, rest_fine, both_fine, and_false}
+use Rattle.cbor_rules.proofs.Canonical.{IsFine, AreFine, by_keys, kept_fine, fine_kept, first_fine, rest_fine, both_fine, and_false, items_free, pairs_free, bytes_free}
 use Rattle.cbor_rules.proofs.Floats.{shortest_is, shortest_nan, kept_shortest, shortest_narrow, shortest_one}
 
 -- the rules about floats alone
@@ -57,6 +57,9 @@ is_canonical order f fine AscendingKeys = fine AscendingKeys
 is_canonical order f fine UniqueKeys = fine UniqueKeys
 is_canonical order f fine NoUndefined = fine NoUndefined
 is_canonical order f fine NoTags = fine NoTags
+is_canonical order f fine MostItems = items_free (only (by_keys order)) f refl
+is_canonical order f fine MostPairs = pairs_free (only (by_keys order)) f refl
+is_canonical order f fine MostBytes = bytes_free (only (by_keys order)) f refl
 is_canonical order (number_of m w n) fine ReducedNumbers = refl
 is_canonical order (float_bits w bits) fine ReducedNumbers = refl
 is_canonical order _ fine ReducedNumbers = refl
@@ -76,11 +79,17 @@ is_all order f one floats ShortestFloats = floats ShortestFloats
 is_all order f one floats OneNan = floats OneNan
 is_all order f one floats NoUndefined = one NoUndefined
 is_all order f one floats NoTags = one NoTags
+is_all order f one floats MostItems = items_free (only (with_keys order)) f refl
+is_all order f one floats MostPairs = pairs_free (only (with_keys order)) f refl
+is_all order f one floats MostBytes = bytes_free (only (with_keys order)) f refl
 
 -- the rules about floats are kept where the two that are on are
 floats_fine : (f : Feature) → breaks (only floats_only) ShortestFloats f ≡ false → breaks (only floats_only) OneNan f ≡ false → IsFine floats_only f
 floats_fine f short one ShortestFloats = short
 floats_fine f short one OneNan = one
+floats_fine f short one MostItems = items_free (only floats_only) f refl
+floats_fine f short one MostPairs = pairs_free (only floats_only) f refl
+floats_fine f short one MostBytes = bytes_free (only floats_only) f refl
 floats_fine (number_of m w n) short one ReducedNumbers = refl
 floats_fine (float_bits w bits) short one ReducedNumbers = refl
 floats_fine _ short one ReducedNumbers = refl
@@ -117,6 +126,9 @@ not_defined order (simple_item undefined_item) fine NoUndefined = refl
 not_defined order (simple_item _) fine NoUndefined = refl
 not_defined order _ fine NoUndefined = refl
 not_defined order f fine NoTags = fine NoTags
+not_defined order f fine MostItems = fine MostItems
+not_defined order f fine MostPairs = fine MostPairs
+not_defined order f fine MostBytes = fine MostBytes
 
 -- only floats break any of the rules about them
 abbrev IsFloat : Feature → Type 0
@@ -129,6 +141,8 @@ other_fine (number_of m w n) other = floats_fine (number_of m w n) refl refl
 other_fine indefinite_length other = floats_fine indefinite_length refl refl
 other_fine (simple_item s) other = floats_fine (simple_item s) refl refl
 other_fine (key earlier k) other = floats_fine (key earlier k) refl refl
+other_fine (nth_item earlier) other = floats_fine (nth_item earlier) refl refl
+other_fine (chunk_to n) other = floats_fine (chunk_to n) refl refl
 
 -- ---- what keeps the rules about floats
 
@@ -159,7 +173,8 @@ mutual
   kept_floats at (raw.text c) fits fine = tt
   kept_floats at (raw.bytes_chunks cs) fits fine = tt
   kept_floats at (raw.text_chunks cs) fits fine = tt
-  kept_floats at (raw.array l rs) fits fine = all_kept_floats (length_end at 4 l (raw.count rs)) rs fits.1 fine.1
+  kept_floats at (raw.array (definite w) rs) fits fine = all_kept_floats (head_end at 4 w (raw.count rs)) rs fits.1 fine.1
+  kept_floats at (raw.array indefinite rs) fits fine = open_kept_floats (suc at) 0 rs fits.1 fine.1
   kept_floats at (raw.map l ps) fits fine = pairs_kept_floats (length_end at 5 l (raw.pair_count ps)) [] ps no_pairs fits.1 fine.1 tt
   kept_floats at (raw.tag w n r) fits fine = kept_floats (head_end at 6 w n) r fits.1 fine.1
   kept_floats at (raw.simple s) fits fine = simple_short s
@@ -170,6 +185,14 @@ mutual
   all_kept_floats at (raw.raw r rs) fits fine =
       let more = at + length (spell r) in
       (kept_floats at r fits.0 (first_fine floats_only (features at r) (all_features more rs) fine), all_kept_floats more rs fits.1 (rest_fine floats_only (features at r) (all_features more rs) fine))
+
+  open_kept_floats : (at earlier : ℕ) (rs : Raws) → AreWellFormed rs → AreFine floats_only (open_features at earlier rs) → HaveShortestFloats (values rs)
+  open_kept_floats at earlier no_raws fits fine = tt
+  open_kept_floats at earlier (raw.raw r rs) fits fine =
+      let more = at + length (spell r) in
+      let others = open_features more (earlier + 1) rs in
+      let behind = place more (nth_item earlier) ∷ others in
+      (kept_floats at r fits.0 (first_fine floats_only (features at r) behind fine), open_kept_floats more (earlier + 1) rs fits.1 (rest_fine floats_only (features at r) behind fine).1)
 
   pairs_kept_floats : (at : ℕ) (earlier : List (List ℕ)) (ps : RawPairs) (onto : Pairs) → ArePairsWellFormed ps → AreFine floats_only (pair_features at earlier ps) → PairsHaveShortestFloats onto → PairsHaveShortestFloats (pairs ps onto)
   pairs_kept_floats at earlier no_raw_pairs onto fits fine all = all
@@ -200,6 +223,9 @@ module _ (apart : ApartFloats) where
   float_fine w bits is UniqueKeys = refl
   float_fine w bits is NoUndefined = refl
   float_fine w bits is NoTags = refl
+  float_fine w bits is MostItems = refl
+  float_fine w bits is MostPairs = refl
+  float_fine w bits is MostBytes = refl
 
   mutual
     unfolding features canonical

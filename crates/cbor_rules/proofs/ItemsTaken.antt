@@ -34,8 +34,7 @@ one_front r s a b fits fits' is = elim (cases_lt (length (spell r)) (length (spe
 -- ---- the item that was read
 
 module _ {A : Type 0} (reads : Raw → A → Type 0) (s : Items) (x : A) (end : ℕ) (ends : EndsAt reads s.input s.taken x end)
-    (bytes : List ℕ) (cut : bytes ≡ take (end - s.taken) (to_come s))
-    (o : Option Departure) (reports : (r : Raw) → IsWellFormed r → spell r ≡ bytes → o ≡ first_departure s.terms r) where
+    (bytes : List ℕ) (cut : bytes ≡ take (end - s.taken) (to_come s)) where
   abbrev item : Raw
   item = ends.read.item
 
@@ -43,9 +42,6 @@ module _ {A : Type 0} (reads : Raw → A → Type 0) (s : Items) (x : A) (end : 
   spelled =
       let long : end - s.taken ≡ length (spell item) = omega (arith, ends.long) in
       sym (cut ∙ ap (λ n. take n (to_come s)) long ∙ ap (take (length (spell item))) ends.read.begins.spelled ∙ take-append_seam (spell item) (drop end s.input))
-
-  departure_is : o ≡ first_departure s.terms item
-  departure_is = reports item ends.read.begins.acceptable.fits spelled
 
   -- no other acceptable item is to come
   same_item : (r : Raw) (rest : List ℕ) → Begins max_depth (to_come s) r rest → item ≡ r
@@ -55,33 +51,41 @@ module _ {A : Type 0} (reads : Raw → A → Type 0) (s : Items) (x : A) (end : 
   pub read_as : (r : Raw) (rest : List ℕ) → Begins max_depth (to_come s) r rest → reads r x
   read_as r rest begins = subst (λ (r : Raw). reads r x) (same_item r rest begins) ends.read.means
 
-  -- ---- it departs
+  -- what holds of each item of these bytes
+  pub of_item : (P : Raw → Type 0) → ((r : Raw) → IsWellFormed r → spell r ≡ bytes → P r) → (r : Raw) (rest : List ℕ) → Begins max_depth (to_come s) r rest → P r
+  of_item P holds r rest begins = subst P (same_item r rest begins) (holds item ends.read.begins.acceptable.fits spelled)
 
-  module _ (d : Departure) (is : o ≡ Some d) where
-    departs : departure_from s.taken s.terms item ≡ Some (record { rule = d.rule; offset = s.taken + d.offset })
-    departs = ap (counted_from s.taken) (sym departure_is ∙ is)
+  module _ (o : Option Departure) (reports : (r : Raw) → IsWellFormed r → spell r ≡ bytes → o ≡ first_departure s.terms r) where
+    departure_is : o ≡ first_departure s.terms item
+    departure_is = reports item ends.read.begins.acceptable.fits spelled
 
-    pub departs_so : (r : Raw) (rest : List ℕ) → Begins max_depth (to_come s) r rest
-        → departure_from s.taken s.terms r ≡ Some (record { rule = d.rule; offset = s.taken + d.offset })
-    departs_so r rest begins = ap (departure_from s.taken s.terms) (sym (same_item r rest begins)) ∙ departs
+    -- ---- it departs
 
-    pub departing : BeginsDeparting s (record { rule = d.rule; offset = s.taken + d.offset })
-    departing = record { item = item; rest = drop end s.input; begins = ends.read.begins; departs = departs }
+    module _ (d : Departure) (is : o ≡ Some d) where
+      departs : departure_from s.taken s.terms item ≡ Some (record { rule = d.rule; offset = s.taken + d.offset })
+      departs = ap (counted_from s.taken) (sym departure_is ∙ is)
 
-    pub not_by_rules : (y : A) (rest : List ℕ) → BeginsByRules s.terms reads (to_come s) y rest → ⊥
-    not_by_rules y rest front =
-        let none = (none_where_kept s.terms front.read.item).1 front.keeps in
-        let same = same_item front.read.item rest front.read.begins in
-        let both : Some d ≡ None = sym is ∙ departure_is ∙ ap (first_departure s.terms) same ∙ none in
-        absurd cc
+      pub departs_so : (r : Raw) (rest : List ℕ) → Begins max_depth (to_come s) r rest
+          → departure_from s.taken s.terms r ≡ Some (record { rule = d.rule; offset = s.taken + d.offset })
+      departs_so r rest begins = ap (departure_from s.taken s.terms) (sym (same_item r rest begins)) ∙ departs
 
-  -- ---- it keeps the rules
+      pub departing : BeginsDeparting s (record { rule = d.rule; offset = s.taken + d.offset })
+      departing = record { item = item; rest = drop end s.input; begins = ends.read.begins; departs = departs }
 
-  pub given : (t : Items) → t ≡ record s { taken = end } → o ≡ None → GivesItem reads s t x
-  given t after is =
-      let keeps = (none_where_kept s.terms item).0 (sym departure_is ∙ is) in
-      let left : drop end s.input ≡ to_come t = sym (ap to_come after) in
-      record {
-        front = record { read = subst (λ (rest : List ℕ). BeginsAs all_formats max_depth reads (to_come s) x rest) left ends.read; keeps = keeps };
-        took = after ∙ ap (λ (n : ℕ). record s { taken = n }) ends.long;
-      }
+      pub not_by_rules : (y : A) (rest : List ℕ) → BeginsByRules s.terms reads (to_come s) y rest → ⊥
+      not_by_rules y rest front =
+          let none = (none_where_kept s.terms front.read.item).1 front.keeps in
+          let same = same_item front.read.item rest front.read.begins in
+          let both : Some d ≡ None = sym is ∙ departure_is ∙ ap (first_departure s.terms) same ∙ none in
+          absurd cc
+
+    -- ---- it keeps the rules
+
+    pub given : (t : Items) → t ≡ record s { taken = end } → o ≡ None → GivesItem reads s t x
+    given t after is =
+        let keeps = (none_where_kept s.terms item).0 (sym departure_is ∙ is) in
+        let left : drop end s.input ≡ to_come t = sym (ap to_come after) in
+        record {
+          front = record { read = subst (λ (rest : List ℕ). BeginsAs all_formats max_depth reads (to_come s) x rest) left ends.read; keeps = keeps };
+          took = after ∙ ap (λ (n : ℕ). record s { taken = n }) ends.long;
+        }

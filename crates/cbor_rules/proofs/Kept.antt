@@ -7,10 +7,10 @@ use Rattle.cbor_model.specs.Head.{head}
 use Rattle.cbor_model.specs.Raw as raw
 use Rattle.cbor_model.specs.Raw.{Chunk, definite, indefinite, Raw, Raws, no_raws, RawPairs, no_raw_pairs, raw_pair, count, pair_count}
 use Rattle.cbor_model.specs.Spelling.{spell, spell_all, spell_pairs, chunk, break}
-use Rattle.cbor_rules.specs.Features.{Feature, Place, features, all_features, pair_features, chunk_places}
+use Rattle.cbor_rules.specs.Features.{Feature, Place, features, all_features, open_features, pair_features, chunk_places}
 use Rattle.cbor_rules.specs.Rules.{Terms, breaks, first_broken, all_rules, broken, departure_or, departure_in, first_departure, IsFirst, NoneWhereKept, FirstIsLeast}
 use Rattle.cbor_rules.specs.declared.settings.Rule.{Rule}
-use Rattle.cbor_rules.specs.declared.settings.Rule.TheVariants.{ShortestHeads, DefiniteLengths, PlainKeys, AscendingKeys, UniqueKeys, ReducedNumbers, ShortestFloats, OneNan, NoUndefined, NoTags}
+use Rattle.cbor_rules.specs.declared.settings.Rule.TheVariants.{ShortestHeads, DefiniteLengths, PlainKeys, AscendingKeys, UniqueKeys, ReducedNumbers, ShortestFloats, OneNan, NoUndefined, NoTags, MostItems, MostPairs, MostBytes}
 use Rattle.cbor_rules.specs.declared.answers.Departure.{Departure}
 
 -- ---- one feature
@@ -42,19 +42,22 @@ module _ (terms : Terms) (f : Feature) where
 
   -- each rule is among them all
   pick : AreKept all_rules → (rule : Rule) → breaks terms rule f ≡ false
-  pick kept ShortestHeads = kept.0
-  pick kept DefiniteLengths = kept.1.0
-  pick kept PlainKeys = kept.1.1.0
-  pick kept AscendingKeys = kept.1.1.1.0
-  pick kept UniqueKeys = kept.1.1.1.1.0
-  pick kept ReducedNumbers = kept.1.1.1.1.1.0
-  pick kept ShortestFloats = kept.1.1.1.1.1.1.0
-  pick kept OneNan = kept.1.1.1.1.1.1.1.0
-  pick kept NoUndefined = kept.1.1.1.1.1.1.1.1.0
-  pick kept NoTags = kept.1.1.1.1.1.1.1.1.1.0
+  pick kept MostItems = kept.0
+  pick kept MostPairs = kept.1.0
+  pick kept MostBytes = kept.1.1.0
+  pick kept ShortestHeads = kept.1.1.1.0
+  pick kept DefiniteLengths = kept.1.1.1.1.0
+  pick kept PlainKeys = kept.1.1.1.1.1.0
+  pick kept AscendingKeys = kept.1.1.1.1.1.1.0
+  pick kept UniqueKeys = kept.1.1.1.1.1.1.1.0
+  pick kept ReducedNumbers = kept.1.1.1.1.1.1.1.1.0
+  pick kept ShortestFloats = kept.1.1.1.1.1.1.1.1.1.0
+  pick kept OneNan = kept.1.1.1.1.1.1.1.1.1.1.0
+  pick kept NoUndefined = kept.1.1.1.1.1.1.1.1.1.1.1.0
+  pick kept NoTags = kept.1.1.1.1.1.1.1.1.1.1.1.1.0
 
   gather : ((rule : Rule) → breaks terms rule f ≡ false) → AreKept all_rules
-  gather each = (each ShortestHeads, (each DefiniteLengths, (each PlainKeys, (each AscendingKeys, (each UniqueKeys, (each ReducedNumbers, (each ShortestFloats, (each OneNan, (each NoUndefined, (each NoTags, tt))))))))))
+  gather each = (each MostItems, (each MostPairs, (each MostBytes, (each ShortestHeads, (each DefiniteLengths, (each PlainKeys, (each AscendingKeys, (each UniqueKeys, (each ReducedNumbers, (each ShortestFloats, (each OneNan, (each NoUndefined, (each NoTags, tt)))))))))))))
 
 -- ---- places
 
@@ -96,14 +99,17 @@ climbs_to : (low mid high : ℕ) (ps : List Place) → Climbs low mid ps → mid
 climbs_to low mid high [] one le = omega (arith, one, le)
 climbs_to low mid high (p ∷ ps) one le = (one.0, climbs_to p.offset mid high ps one.1 le)
 
-chunks_climb : (major : ℕ) (cs : List Chunk) (at high : ℕ) → at + length (flat_map (chunk major) cs) ≤ high → Climbs at high (chunk_places at major cs)
-chunks_climb major [] at high le = omega (arith, le)
-chunks_climb major (c ∷ cs) at high le =
+chunks_climb : (major : ℕ) (cs : List Chunk) (sum at high : ℕ) → at + length (flat_map (chunk major) cs) ≤ high → Climbs at high (chunk_places at major sum cs)
+chunks_climb major [] sum at high le = omega (arith, le)
+chunks_climb major (c ∷ cs) sum at high le =
     let front = head major c.width (length c.bytes) in (
       omega arith,
-      climbs_from (at + length front) (at + length (chunk major c)) high (chunk_places (at + length (chunk major c)) major cs)
-          (omega (arith, length-append front c.bytes))
-          (chunks_climb major cs (at + length (chunk major c)) high (omega (arith, le, length-append (chunk major c) (flat_map (chunk major) cs)))),
+      (
+        omega arith,
+        climbs_from (at + length front) (at + length (chunk major c)) high (chunk_places (at + length (chunk major c)) major (sum + length c.bytes) cs)
+            (omega (arith, length-append front c.bytes))
+            (chunks_climb major cs (sum + length c.bytes) (at + length (chunk major c)) high (omega (arith, le, length-append (chunk major c) (flat_map (chunk major) cs)))),
+      ),
     )
 
 mutual
@@ -114,12 +120,12 @@ mutual
   climb (raw.negative w n) at high le = (omega arith, le)
   climb (raw.bytes c) at high le = (omega arith, omega (arith, le, length-append (head 2 c.width (length c.bytes)) c.bytes))
   climb (raw.text c) at high le = (omega arith, omega (arith, le, length-append (head 3 c.width (length c.bytes)) c.bytes))
-  climb (raw.bytes_chunks cs) at high le = (omega arith, chunks_climb 2 cs (suc at) high (omega (arith, le, length-append (flat_map (chunk 2) cs) break)))
-  climb (raw.text_chunks cs) at high le = (omega arith, chunks_climb 3 cs (suc at) high (omega (arith, le, length-append (flat_map (chunk 3) cs) break)))
+  climb (raw.bytes_chunks cs) at high le = (omega arith, chunks_climb 2 cs 0 (suc at) high (omega (arith, le, length-append (flat_map (chunk 2) cs) break)))
+  climb (raw.text_chunks cs) at high le = (omega arith, chunks_climb 3 cs 0 (suc at) high (omega (arith, le, length-append (flat_map (chunk 3) cs) break)))
   climb (raw.array (definite w) rs) at high le =
       let front = head 4 w (count rs) in
       (omega arith, all_climb rs (at + length front) high (omega (arith, le, length-append front (spell_all rs))))
-  climb (raw.array indefinite rs) at high le = (omega arith, all_climb rs (suc at) high (omega (arith, le, length-append (spell_all rs) break)))
+  climb (raw.array indefinite rs) at high le = (omega arith, open_climb rs 0 (suc at) high (omega (arith, le, length-append (spell_all rs) break)))
   climb (raw.map (definite w) ps) at high le =
       let front = head 5 w (pair_count ps) in
       (omega arith, pairs_climb ps [] (at + length front) high (omega (arith, le, length-append front (spell_pairs ps))))
@@ -136,6 +142,15 @@ mutual
       let mid = at + length (spell r) in
       climbs_then at mid high (features at r) (all_features mid rs) (climb r at mid (omega arith))
       (all_climb rs mid high (omega (arith, le, length-append (spell r) (spell_all rs))))
+
+  open_climb : (rs : Raws) (earlier at high : ℕ) → at + length (spell_all rs) ≤ high → Climbs at high (open_features at earlier rs)
+  open_climb no_raws earlier at high le = omega (arith, le)
+  open_climb (raw.raw r rs) earlier at high le =
+      let mid = at + length (spell r) in
+      climbs_then at mid high (features at r) _ (climb r at mid (omega arith)) (
+        omega arith,
+        open_climb rs (earlier + 1) mid high (omega (arith, le, length-append (spell r) (spell_all rs))),
+      )
 
   pairs_climb : (ps : RawPairs) (earlier : List (List ℕ)) (at high : ℕ) → at + length (spell_pairs ps) ≤ high → Climbs at high (pair_features at earlier ps)
   pairs_climb no_raw_pairs earlier at high le = omega (arith, le)

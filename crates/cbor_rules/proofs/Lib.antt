@@ -1,6 +1,9 @@
 pub mod Walking
 pub mod Walked
 pub mod Told
+pub mod Followed
+pub mod ChunkSteps
+pub mod MetKeys
 pub mod Kept
 pub mod Reading
 pub mod Fronts
@@ -8,6 +11,7 @@ pub mod ItemsTaken
 pub mod Canonical
 pub mod CanonicalKeys
 pub mod Unique
+pub mod Limits
 pub mod Floats
 pub mod Deterministic
 pub mod Puts

@@ -19,7 +19,7 @@ use Rattle.cbor_model.specs.Raw.{Chunk, Raw, Raws, no_raws, RawPairs, no_raw_pai
 use Rattle.cbor_model.specs.Spelling.{spell, spell_all, spell_pairs, chunk, break}
 use Rattle.cbor_model.specs.Value.{value}
 use Rattle.cbor_model.proofs.facts.Laws.{equal_bytes, value_is_canonical}
-use Rattle.cbor_rules.specs.Features.{Place, place, key, features, all_features, pair_features, chunk_places, head_end}
+use Rattle.cbor_rules.specs.Features.{Place, place, key, features, all_features, open_features, pair_features, chunk_places, head_end, nth_item}
 use Rattle.cbor_rules.specs.Rules.{Terms, breaks, canonical_key, has_key, is_unique}
 use Rattle.cbor_rules.specs.Unique.{HasUniqueKeys, HaveUniqueKeys, PairsHaveUniqueKeys, UniqueKeysAreKept}
 use Rattle.cbor_rules.specs.declared.settings.Rule.TheVariants.{UniqueKeys}
@@ -116,9 +116,9 @@ module _ (terms : Terms) where
   both_kept [] qs one other = other
   both_kept (p ∷ ps) qs one other = (one.0, both_kept ps qs one.1 other)
 
-  chunks_kept : (at major : ℕ) (cs : List Chunk) → AreKept (chunk_places at major cs)
-  chunks_kept at major [] = tt
-  chunks_kept at major (c ∷ cs) = (refl, chunks_kept (at + length (chunk major c)) major cs)
+  chunks_kept : (at major sum : ℕ) (cs : List Chunk) → AreKept (chunk_places at major sum cs)
+  chunks_kept at major sum [] = tt
+  chunks_kept at major sum (c ∷ cs) = (refl, (refl, chunks_kept (at + length (chunk major c)) major (sum + length c.bytes) cs))
 
 -- each says the other
 abbrev Same : Type 0 → Type 0 → Type 0
@@ -133,14 +133,14 @@ module _ (terms : Terms) (unique : is_unique terms.rules.keys ≡ true) where
     same at (raw.negative w n) fits nests texts short = (λ k. tt, λ u. (refl, tt))
     same at (raw.bytes c) fits nests texts short = (λ k. tt, λ u. (refl, tt))
     same at (raw.text c) fits nests texts short = (λ k. tt, λ u. (refl, tt))
-    same at (raw.bytes_chunks cs) fits nests texts short = (λ k. tt, λ u. (refl, chunks_kept terms (suc at) 2 cs))
-    same at (raw.text_chunks cs) fits nests texts short = (λ k. tt, λ u. (refl, chunks_kept terms (suc at) 3 cs))
+    same at (raw.bytes_chunks cs) fits nests texts short = (λ k. tt, λ u. (refl, chunks_kept terms (suc at) 2 0 cs))
+    same at (raw.text_chunks cs) fits nests texts short = (λ k. tt, λ u. (refl, chunks_kept terms (suc at) 3 0 cs))
     same at (raw.array (definite w) rs) fits nests texts short =
         let front = head 4 w (count rs) in
         let inside = all_same (head_end at 4 w (count rs)) rs fits.1 (omega (arith, nests)) texts (omega (arith, short, length-append front (spell_all rs))) in
         (λ k. inside.0 k.1, λ u. (refl, inside.1 u))
     same at (raw.array indefinite rs) fits nests texts short =
-        let inside = all_same (suc at) rs fits.1 (omega (arith, nests)) texts (omega (arith, short, length-append (spell_all rs) break)) in
+        let inside = open_same (suc at) 0 rs fits.1 (omega (arith, nests)) texts (omega (arith, short, length-append (spell_all rs) break)) in
         (λ k. inside.0 k.1, λ u. (refl, inside.1 u))
     same at (raw.map (definite w) ps) fits nests texts short =
         let front = head 5 w (pair_count ps) in
@@ -165,6 +165,18 @@ module _ (terms : Terms) (unique : is_unique terms.rules.keys ≡ true) where
         let others = all_same (at + length (spell r)) rs fits.1 (omega (arith, nests)) texts.1 (omega (arith, short, parts)) in (
           λ k. (one.0 (first_kept terms (features at r) more k), others.0 (rest_kept terms (features at r) more k)),
           λ u. both_kept terms (features at r) more (one.1 u.0) (others.1 u.1),
+        )
+
+    open_same : (at earlier : ℕ) (rs : Raws) → AreWellFormed rs → depth_all rs ≤ max_depth → EachTextOfAll IsUtf8 rs → length (spell_all rs) < 2 ^ 64 → Same (AreKept terms (open_features at earlier rs)) (HaveUniqueKeys rs)
+    open_same at earlier no_raws fits nests texts short = (λ k. tt, λ u. tt)
+    open_same at earlier (raw.raw r rs) fits nests texts short =
+        let more = open_features (at + length (spell r)) (earlier + 1) rs in
+        let behind = place (at + length (spell r)) (nth_item earlier) ∷ more in
+        let parts = length-append (spell r) (spell_all rs) in
+        let one = same at r fits.0 (omega (arith, nests)) texts.0 (omega (arith, short, parts)) in
+        let others = open_same (at + length (spell r)) (earlier + 1) rs fits.1 (omega (arith, nests)) texts.1 (omega (arith, short, parts)) in (
+          λ k. (one.0 (first_kept terms (features at r) behind k), others.0 (rest_kept terms (features at r) behind k).1),
+          λ u. both_kept terms (features at r) behind (one.1 u.0) (refl, others.1 u.1),
         )
 
     pairs_same : (at : ℕ) (bs : List (List ℕ)) (vs : List Val) (ps : RawPairs) → AreOf bs vs → ArePairsWellFormed ps → depth_pairs ps ≤ max_depth → EachTextOfPairs IsUtf8 ps → length (spell_pairs ps) < 2 ^ 64 → Same (AreKept terms (pair_features at bs ps)) (PairsHaveUniqueKeys vs ps)

@@ -4,17 +4,17 @@ use Rattle.std.specs.Prelude.{IsErr, ◌&&◌}
 use Rattle.std.proofs.lemmas.Bool.{ne_eqb, le-leb, lt-leb}
 use Rattle.std.proofs.lemmas.List.{drop-drop, length-drop}
 use Rattle.cbor_model.specs.Raw.{FloatWidth}
-use Rattle.cbor_rules.specs.Features.{number, float_bits, key}
-use Rattle.cbor_rules.specs.Rules.{Terms, under, only, broken}
+use Rattle.cbor_rules.specs.Features.{number, indefinite_length, float_bits, key, nth_item}
+use Rattle.cbor_rules.specs.Rules.{Terms, under, only, broken, is_reached}
 use Rattle.cbor_rules.specs.Walk as model
-use Rattle.cbor_rules.specs.Walk.{and_then, seen, unless_broken, is_break, with_number, all_walk, pairs_walk, content_walk, past, float_walk, simple_walk, inside_walk, indefinite_walk, head_walk}
+use Rattle.cbor_rules.specs.Walk.{Sought, departure_from, found, and_then, seen, unless_broken, is_break, with_number, all_walk, open_walk, chunk_walk, chunk_content, chunks_walk, pairs_walk, content_walk, past, float_walk, simple_walk, inside_walk, indefinite_walk, head_walk}
 use Rattle.cbor_model.specs.Reader.{Reads, number_behind, width_of}
 use Rattle.cbor_rules.specs.declared.settings.Rules.{Rules}
 use Rattle.cbor_rules.specs.declared.settings.Rule.{Rule}
-use Rattle.cbor_rules.specs.declared.settings.Rule.TheVariants.{DefiniteLengths}
+use Rattle.cbor_rules.specs.declared.settings.Rule.TheVariants.{DefiniteLengths, MostItems}
 use Rattle.cbor_rules.specs.declared.walk.Walk.{Walk}
 use Rattle.cbor_rules.specs.declared.walk.Walk.TheVariants.{Passed, Departed, Stopped, NoMemory}
-use Rattle.cbor_rules.specs.Walks.{last, walk_view, HadMemory, EndsForMemory, IsWithin, IsAfter}
+use Rattle.cbor_rules.specs.Walks.{last, walk_view, HadMemory, IsWithin, IsAfter}
 
 pub last_all : (bs : List ℕ) → bs ≡ last (length bs) bs
 last_all bs = let none : length bs - length bs ≡ 0 = omega arith in sym (ap (λ (n : ℕ). drop n bs) none)
@@ -89,43 +89,69 @@ after_break rest bs some le is =
     let m : (length bs - length rest) + 1 ≡ length bs - (length rest - 1) = omega (arith, some, le) in
     ap (drop 1) is ∙ drop-drop 1 (length bs - length rest) bs ∙ ap (λ (n : ℕ). drop n bs) m
 
-module _ (p : List ℕ → model.Walk) (is_open : Bool) (n i : ℕ) (lt : i < n) (rest : List ℕ) where
-  pub all_break : (is_open && is_break rest) ≡ true → all_walk p is_open (n - i) rest ≡ model.passed (drop 1 rest)
+module _ (p : List ℕ → model.Walk) (n i : ℕ) (lt : i < n) (rest : List ℕ) where
+  pub all_begin : all_walk p (n - i) rest ≡ and_then (p rest) (all_walk p (n - (i + 1)))
   unfolding all_walk
-  all_break ends = rw (one_less n i lt) (rw ends refl)
+  all_begin = rw (one_less n i lt) refl
 
-  module _ (on : (is_open && is_break rest) ≡ false) where
-    all_begin : all_walk p is_open (n - i) rest ≡ and_then (p rest) (all_walk p is_open (n - (i + 1)))
-    unfolding all_walk
-    all_begin = rw (one_less n i lt) (rw on refl)
+  pub all_step : (mid : List ℕ) → p rest ≡ model.passed mid → all_walk p (n - i) rest ≡ all_walk p (n - (i + 1)) mid
+  all_step mid is = all_begin ∙ ap (λ (w : model.Walk). and_then w (all_walk p (n - (i + 1)))) is
 
-    pub all_step : (mid : List ℕ) → p rest ≡ model.passed mid → all_walk p is_open (n - i) rest ≡ all_walk p is_open (n - (i + 1)) mid
-    all_step mid is = all_begin ∙ ap (λ (w : model.Walk). and_then w (all_walk p is_open (n - (i + 1)))) is
+  pub all_other : (bs : List ℕ) (r : Walk) → p rest ≡ walk_view rest r → IsOther r → all_walk p (n - i) rest ≡ walk_view bs r
+  all_other bs r is other =
+      all_begin
+      ∙ ap (λ (w : model.Walk). and_then w (all_walk p (n - (i + 1)))) is
+      ∙ other_then r rest (all_walk p (n - (i + 1))) other
+      ∙ other_view r rest bs other
 
-    pub all_other : (bs : List ℕ) (r : Walk) → p rest ≡ walk_view rest r → IsOther r → all_walk p is_open (n - i) rest ≡ walk_view bs r
-    all_other bs r is other =
-        all_begin
-        ∙ ap (λ (w : model.Walk). and_then w (all_walk p is_open (n - (i + 1)))) is
-        ∙ other_then r rest (all_walk p is_open (n - (i + 1))) other
+module _ (sought : Sought) (p : List ℕ → model.Walk) (n i : ℕ) (lt : i < n) (rest : List ℕ) where
+  pub open_break : is_break rest ≡ true → open_walk sought p (n - i) i rest ≡ model.passed (drop 1 rest)
+  unfolding open_walk
+  open_break ends = rw (one_less n i lt) (rw ends refl)
+
+  -- what follows an item
+  abbrev pub behind_item : List ℕ → model.Walk
+  behind_item mid = seen sought (nth_item i) (length mid) (open_walk sought p (n - (i + 1)) (i + 1) mid)
+
+  module _ (on : is_break rest ≡ false) where
+    pub open_begin : open_walk sought p (n - i) i rest ≡ and_then (p rest) behind_item
+    unfolding open_walk
+    open_begin = rw (one_less n i lt) (rw on refl)
+
+    pub open_other : (bs : List ℕ) (r : Walk) → p rest ≡ walk_view rest r → IsOther r → open_walk sought p (n - i) i rest ≡ walk_view bs r
+    open_other bs r is other =
+        open_begin
+        ∙ ap (λ (w : model.Walk). and_then w behind_item) is
+        ∙ other_then r rest behind_item other
         ∙ other_view r rest bs other
 
-module _ (terms : Terms) (p : List ℕ → model.Walk) (is_open : Bool) (n i : ℕ) (lt : i < n) (earlier : List (List ℕ)) (rest : List ℕ) where
-  pub pairs_break : (is_open && is_break rest) ≡ true → pairs_walk terms p is_open (n - i) earlier rest ≡ model.passed (drop 1 rest)
+    module _ (mid : List ℕ) (is : p rest ≡ model.passed mid) where
+      pub open_item : open_walk sought p (n - i) i rest ≡ behind_item mid
+      open_item = open_begin ∙ ap (λ (w : model.Walk). and_then w behind_item) is
+
+      pub open_departs : (rule : Rule) → found sought (nth_item i) ≡ Some rule → open_walk sought p (n - i) i rest ≡ model.departed rule (length mid)
+      open_departs rule breaks = open_item ∙ seen_broken rule (found sought (nth_item i)) (length mid) _ breaks
+
+      pub open_step : found sought (nth_item i) ≡ None → open_walk sought p (n - i) i rest ≡ open_walk sought p (n - (i + 1)) (i + 1) mid
+      open_step keeps = open_item ∙ seen_kept (found sought (nth_item i)) (length mid) _ keeps
+
+module _ (sought : Sought) (p : List ℕ → model.Walk) (is_open : Bool) (n i : ℕ) (lt : i < n) (earlier : List (List ℕ)) (rest : List ℕ) where
+  pub pairs_break : (is_open && is_break rest) ≡ true → pairs_walk sought p is_open (n - i) earlier rest ≡ model.passed (drop 1 rest)
   unfolding pairs_walk
   pairs_break ends = rw (one_less n i lt) (rw ends refl)
 
   -- what follows a key
-  abbrev behind_key : List ℕ → model.Walk
+  abbrev pub behind_key : List ℕ → model.Walk
   behind_key at_value =
       let k = take (length rest - length at_value) rest in
-      seen terms (key earlier k) (length at_value) (and_then (p at_value) (pairs_walk terms p is_open (n - (i + 1)) (k ∷ earlier)))
+      seen sought (key earlier k) (length at_value) (and_then (p at_value) (pairs_walk sought p is_open (n - (i + 1)) (k ∷ earlier)))
 
   module _ (on : (is_open && is_break rest) ≡ false) where
-    pairs_begin : pairs_walk terms p is_open (n - i) earlier rest ≡ and_then (p rest) behind_key
+    pub pairs_begin : pairs_walk sought p is_open (n - i) earlier rest ≡ and_then (p rest) behind_key
     unfolding pairs_walk
     pairs_begin = rw (one_less n i lt) (rw on refl)
 
-    pub pairs_other : (bs : List ℕ) (r : Walk) → p rest ≡ walk_view rest r → IsOther r → pairs_walk terms p is_open (n - i) earlier rest ≡ walk_view bs r
+    pub pairs_other : (bs : List ℕ) (r : Walk) → p rest ≡ walk_view rest r → IsOther r → pairs_walk sought p is_open (n - i) earlier rest ≡ walk_view bs r
     pairs_other bs r is other =
         pairs_begin
         ∙ ap (λ (w : model.Walk). and_then w behind_key) is
@@ -133,55 +159,66 @@ module _ (terms : Terms) (p : List ℕ → model.Walk) (is_open : Bool) (n i : �
         ∙ other_view r rest bs other
 
     module _ (at_value k : List ℕ) (is : p rest ≡ model.passed at_value) (key_is : k ≡ take (length rest - length at_value) rest) where
-      pairs_key : pairs_walk terms p is_open (n - i) earlier rest ≡ seen terms (key earlier k) (length at_value) (and_then (p at_value) (pairs_walk terms p is_open (n - (i + 1)) (k ∷ earlier)))
+      pairs_key : pairs_walk sought p is_open (n - i) earlier rest ≡ seen sought (key earlier k) (length at_value) (and_then (p at_value) (pairs_walk sought p is_open (n - (i + 1)) (k ∷ earlier)))
       pairs_key =
           pairs_begin
           ∙ ap (λ (w : model.Walk). and_then w behind_key) is
-          ∙ ap (λ (k : List ℕ). seen terms (key earlier k) (length at_value) (and_then (p at_value) (pairs_walk terms p is_open (n - (i + 1)) (k ∷ earlier)))) (sym key_is)
+          ∙ ap (λ (k : List ℕ). seen sought (key earlier k) (length at_value) (and_then (p at_value) (pairs_walk sought p is_open (n - (i + 1)) (k ∷ earlier)))) (sym key_is)
 
-      pub pairs_departs : (rule : Rule) → broken terms (key earlier k) ≡ Some rule → pairs_walk terms p is_open (n - i) earlier rest ≡ model.departed rule (length at_value)
-      pairs_departs rule breaks = pairs_key ∙ seen_broken rule (broken terms (key earlier k)) (length at_value) _ breaks
+      pub pairs_departs : (rule : Rule) → found sought (key earlier k) ≡ Some rule → pairs_walk sought p is_open (n - i) earlier rest ≡ model.departed rule (length at_value)
+      pairs_departs rule breaks = pairs_key ∙ seen_broken rule (found sought (key earlier k)) (length at_value) _ breaks
 
-      module _ (keeps : broken terms (key earlier k) ≡ None) where
-        pairs_value : pairs_walk terms p is_open (n - i) earlier rest ≡ and_then (p at_value) (pairs_walk terms p is_open (n - (i + 1)) (k ∷ earlier))
-        pairs_value = pairs_key ∙ seen_kept (broken terms (key earlier k)) (length at_value) _ keeps
+      module _ (keeps : found sought (key earlier k) ≡ None) where
+        pairs_value : pairs_walk sought p is_open (n - i) earlier rest ≡ and_then (p at_value) (pairs_walk sought p is_open (n - (i + 1)) (k ∷ earlier))
+        pairs_value = pairs_key ∙ seen_kept (found sought (key earlier k)) (length at_value) _ keeps
 
-        pub pairs_step : (more : List ℕ) → p at_value ≡ model.passed more → pairs_walk terms p is_open (n - i) earlier rest ≡ pairs_walk terms p is_open (n - (i + 1)) (k ∷ earlier) more
-        pairs_step more is' = pairs_value ∙ ap (λ (w : model.Walk). and_then w (pairs_walk terms p is_open (n - (i + 1)) (k ∷ earlier))) is'
+        pub pairs_step : (more : List ℕ) → p at_value ≡ model.passed more → pairs_walk sought p is_open (n - i) earlier rest ≡ pairs_walk sought p is_open (n - (i + 1)) (k ∷ earlier) more
+        pairs_step more is' = pairs_value ∙ ap (λ (w : model.Walk). and_then w (pairs_walk sought p is_open (n - (i + 1)) (k ∷ earlier))) is'
 
-        pub pairs_value_other : (bs : List ℕ) (r : Walk) → p at_value ≡ walk_view at_value r → IsOther r → pairs_walk terms p is_open (n - i) earlier rest ≡ walk_view bs r
+        pub pairs_value_other : (bs : List ℕ) (r : Walk) → p at_value ≡ walk_view at_value r → IsOther r → pairs_walk sought p is_open (n - i) earlier rest ≡ walk_view bs r
         pairs_value_other bs r is' other =
             pairs_value
-            ∙ ap (λ (w : model.Walk). and_then w (pairs_walk terms p is_open (n - (i + 1)) (k ∷ earlier))) is'
-            ∙ other_then r at_value (pairs_walk terms p is_open (n - (i + 1)) (k ∷ earlier)) other
+            ∙ ap (λ (w : model.Walk). and_then w (pairs_walk sought p is_open (n - (i + 1)) (k ∷ earlier))) is'
+            ∙ other_then r at_value (pairs_walk sought p is_open (n - (i + 1)) (k ∷ earlier)) other
             ∙ other_view r at_value bs other
 
 -- where all are passed
-pub all_end : (p : List ℕ → model.Walk) (is_open : Bool) (n i : ℕ) (rest : List ℕ) → n ≤ i → all_walk p is_open (n - i) rest ≡ cond is_open model.stopped (model.passed rest)
+pub all_end : (p : List ℕ → model.Walk) (n i : ℕ) (rest : List ℕ) → n ≤ i → all_walk p (n - i) rest ≡ model.passed rest
 unfolding all_walk
-all_end p is_open n i rest le = let none : n - i ≡ 0 = omega (arith, le) in ap (λ (k : ℕ). all_walk p is_open k rest) none
+all_end p n i rest le = let none : n - i ≡ 0 = omega (arith, le) in ap (λ (k : ℕ). all_walk p k rest) none
 
-pub pairs_end : (terms : Terms) (p : List ℕ → model.Walk) (is_open : Bool) (n i : ℕ) (earlier : List (List ℕ)) (rest : List ℕ) → n ≤ i → pairs_walk terms p is_open (n - i) earlier rest ≡ cond is_open model.stopped (model.passed rest)
+pub open_end : (sought : Sought) (p : List ℕ → model.Walk) (n i : ℕ) (rest : List ℕ) → n ≤ i → open_walk sought p (n - i) i rest ≡ model.stopped
+unfolding open_walk
+open_end sought p n i rest le = let none : n - i ≡ 0 = omega (arith, le) in ap (λ (k : ℕ). open_walk sought p k i rest) none
+
+-- an item that is one too many breaks its rule, or none
+pub item_broken : (terms : Terms) (i : ℕ) → is_reached terms.rules.most_items i ≡ true → broken terms (nth_item i) ≡ Some MostItems
+item_broken terms i is = rw is refl
+
+pub item_kept : (terms : Terms) (i : ℕ) → is_reached terms.rules.most_items i ≡ false → broken terms (nth_item i) ≡ None
+item_kept terms i is = rw is refl
+
+pub pairs_end : (sought : Sought) (p : List ℕ → model.Walk) (is_open : Bool) (n i : ℕ) (earlier : List (List ℕ)) (rest : List ℕ) → n ≤ i → pairs_walk sought p is_open (n - i) earlier rest ≡ cond is_open model.stopped (model.passed rest)
 unfolding pairs_walk
-pairs_end terms p is_open n i earlier rest le = let none : n - i ≡ 0 = omega (arith, le) in ap (λ (k : ℕ). pairs_walk terms p is_open k earlier rest) none
+pairs_end sought p is_open n i earlier rest le = let none : n - i ≡ 0 = omega (arith, le) in ap (λ (k : ℕ). pairs_walk sought p is_open k earlier rest) none
 
 -- ---- an item
 
-pub on_first : (terms : Terms) (fuel : ℕ) (bs : List ℕ) (b : ℕ) (rest : List ℕ) (r : Walk) → bs ≡ b ∷ rest → length bs ≤ fuel → ((fuel : ℕ) → length rest ≤ fuel → content_walk terms (model.walk terms fuel) (b / 32) (b % 32) rest ≡ walk_view rest r) → IsWithin (length rest) r → model.walk terms fuel bs ≡ walk_view bs r
+pub on_first : (sought : Sought) (fuel : ℕ) (bs : List ℕ) (b : ℕ) (rest : List ℕ) (r : Walk) → bs ≡ b ∷ rest → length bs ≤ fuel → ((fuel : ℕ) → length rest ≤ fuel → content_walk sought (model.walk sought fuel) (b / 32) (b % 32) rest ≡ walk_view rest r) → IsWithin (length rest) r → model.walk sought fuel bs ≡ walk_view bs r
 unfolding model.walk
-on_first terms zero bs b rest r is enough walks few = absurd (omega (arith, ap length is, enough))
-on_first terms (suc fuel) bs b rest r is enough walks few =
+on_first sought zero bs b rest r is enough walks few = absurd (omega (arith, ap length is, enough))
+on_first sought (suc fuel) bs b rest r is enough walks few =
     let view : walk_view rest r ≡ walk_view (b ∷ rest) r = ap (λ (t : List ℕ). walk_view t r) (last_all-but b rest) ∙ view-last (length rest) (b ∷ rest) r (omega arith) (subst (λ (t : List ℕ). IsWithin (length t) r) (last_all-but b rest) few) in
-    ap (model.walk terms (suc fuel)) is ∙ walks fuel (omega (arith, ap length is, enough)) ∙ view ∙ ap (λ (t : List ℕ). walk_view t r) (sym is)
+    ap (model.walk sought (suc fuel)) is ∙ walks fuel (omega (arith, ap length is, enough)) ∙ view ∙ ap (λ (t : List ℕ). walk_view t r) (sym is)
   where
     last_all-but : (b : ℕ) (rest : List ℕ) → rest ≡ last (length rest) (b ∷ rest)
     last_all-but b rest = let one : suc (length rest) - length rest ≡ 1 = omega arith in sym (ap (λ (n : ℕ). drop n (b ∷ rest)) one)
 
-pub no_first : (terms : Terms) (fuel : ℕ) (bs : List ℕ) → length bs ≡ 0 → model.walk terms fuel bs ≡ model.stopped
+pub no_first : (sought : Sought) (fuel : ℕ) (bs : List ℕ) → length bs ≡ 0 → model.walk sought fuel bs ≡ model.stopped
 unfolding model.walk
-no_first terms zero bs none = refl
-no_first terms (suc fuel) [] none = refl
-no_first terms (suc fuel) (b ∷ bs) none = absurd (omega (arith, none))
+no_first sought zero bs none = refl
+no_first sought (suc fuel) [] none = refl
+no_first sought (suc fuel) (b ∷ bs) none = absurd (omega (arith, none))
 
 -- ---- the rest of the bytes
 
@@ -233,66 +270,77 @@ module _ (bs : List ℕ) (left : ℕ) (r : Walk) (le : left ≤ length bs) where
   after_within None is = rw is le
   after_within (Some rule) is = rw is le
 
-pub after_memory : (rules : Rules) (left : ℕ) (r : Walk) (o : Option Rule) → IsAfter o left r → EndsForMemory rules r
-after_memory rules left r None is = rw is tt
-after_memory rules left r (Some rule) is = rw is tt
+pub after_memory : (left : ℕ) (r : Walk) (o : Option Rule) → IsAfter o left r → HadMemory r
+after_memory left r None is = rw is tt
+after_memory left r (Some rule) is = rw is tt
 
-pub float_on : (terms : Terms) (w : FloatWidth) (low bits left : ℕ) (bs : List ℕ) (r : Walk) → number_behind low bs ≡ Ok (bits, last left bs) → left ≤ length bs → IsAfter (broken terms (float_bits w bits)) left r → float_walk terms w low bs ≡ walk_view bs r
-float_on terms w low bits left bs r is le after =
-    number_on (λ bits rest. seen terms (float_bits w bits) (length rest) (model.passed rest)) (number_behind low bs) bits (last left bs) is
-    ∙ after_view bs left r le (broken terms (float_bits w bits)) after
+pub float_on : (sought : Sought) (w : FloatWidth) (low bits left : ℕ) (bs : List ℕ) (r : Walk) → number_behind low bs ≡ Ok (bits, last left bs) → left ≤ length bs → IsAfter (found sought (float_bits w bits)) left r → float_walk sought w low bs ≡ walk_view bs r
+float_on sought w low bits left bs r is le after =
+    number_on (λ bits rest. seen sought (float_bits w bits) (length rest) (model.passed rest)) (number_behind low bs) bits (last left bs) is
+    ∙ after_view bs left r le (found sought (float_bits w bits)) after
 
 -- ---- what follows a first byte
 
+-- an indefinite length breaks its rule, or none
+pub indefinite_broken : (terms : Terms) → terms.rules.definite_lengths ≡ true → broken terms indefinite_length ≡ Some DefiniteLengths
+indefinite_broken terms is = rw is refl
+
+pub indefinite_kept : (terms : Terms) → terms.rules.definite_lengths ≡ false → broken terms indefinite_length ≡ None
+indefinite_kept terms is = rw is refl
+
 -- where nothing has a tag, the tags that stand are the same as none
-pub simple_only : (rules : Rules) (tags : List ℕ) (low : ℕ) (bs : List ℕ) → simple_walk (under rules tags) low bs ≡ simple_walk (only rules) low bs
+pub simple_only : (rules : Rules) (tags : List ℕ) (low : ℕ) (bs : List ℕ) → simple_walk (departure_from (under rules tags)) low bs ≡ simple_walk (departure_from (only rules)) low bs
 unfolding simple_walk
 simple_only rules tags low bs = refl
 
-module _ (terms : Terms) (p : List ℕ → model.Walk) (k low : ℕ) (bs : List ℕ) where
-  pub on_simple : k ≡ 7 → content_walk terms p k low bs ≡ simple_walk terms low bs
+module _ (sought : Sought) (p : List ℕ → model.Walk) (k low : ℕ) (bs : List ℕ) where
+  pub on_simple : k ≡ 7 → content_walk sought p k low bs ≡ simple_walk sought low bs
   unfolding content_walk
   on_simple is = rw is refl
 
-  pub on_indefinite : (k ≡ 7 → ⊥) → low ≡ 31 → content_walk terms p k low bs ≡ indefinite_walk terms p k bs
+  pub on_indefinite : (k ≡ 7 → ⊥) → low ≡ 31 → content_walk sought p k low bs ≡ indefinite_walk sought p k bs
   unfolding content_walk
   on_indefinite not_7 is = rw (ne_eqb k 7 not_7, is) refl
 
-  pub on_head : (k ≡ 7 → ⊥) → (low ≡ 31 → ⊥) → content_walk terms p k low bs ≡ head_walk terms p k low bs
+  pub on_head : (k ≡ 7 → ⊥) → (low ≡ 31 → ⊥) → content_walk sought p k low bs ≡ head_walk sought p k low bs
   unfolding content_walk
   on_head not_7 not_31 = rw (ne_eqb k 7 not_7, ne_eqb low 31 not_31) refl
 
-module _ (terms : Terms) (p : List ℕ → model.Walk) (k : ℕ) (bs : List ℕ) where
-  pub indefinite_departs : terms.rules.definite_lengths ≡ true → indefinite_walk terms p k bs ≡ model.departed DefiniteLengths (length bs)
+module _ (sought : Sought) (p : List ℕ → model.Walk) (k : ℕ) (bs : List ℕ) where
+  pub indefinite_departs : (rule : Rule) → found sought indefinite_length ≡ Some rule → indefinite_walk sought p k bs ≡ model.departed rule (length bs)
   unfolding indefinite_walk
-  indefinite_departs is = rw is refl
+  indefinite_departs rule breaks = seen_broken rule (found sought indefinite_length) (length bs) _ breaks
 
-  pub indefinite_pairs : terms.rules.definite_lengths ≡ false → k ≡ 5 → indefinite_walk terms p k bs ≡ pairs_walk terms p true (length bs) [] bs
+  pub indefinite_pairs : found sought indefinite_length ≡ None → k ≡ 5 → indefinite_walk sought p k bs ≡ pairs_walk sought p true (length bs) [] bs
   unfolding indefinite_walk
-  indefinite_pairs is five = rw (is, five) refl
+  indefinite_pairs keeps five = seen_kept (found sought indefinite_length) (length bs) _ keeps ∙ rw five refl
 
-  pub indefinite_items : terms.rules.definite_lengths ≡ false → (k ≡ 5 → ⊥) → indefinite_walk terms p k bs ≡ all_walk p true (length bs) bs
+  pub indefinite_items : found sought indefinite_length ≡ None → k ≡ 4 → indefinite_walk sought p k bs ≡ open_walk sought p (length bs) 0 bs
   unfolding indefinite_walk
-  indefinite_items is not_5 = rw (is, ne_eqb k 5 not_5) refl
+  indefinite_items keeps four = seen_kept (found sought indefinite_length) (length bs) _ keeps ∙ rw four refl
+
+  pub indefinite_chunks : found sought indefinite_length ≡ None → (k ≡ 5 → ⊥) → (k ≡ 4 → ⊥) → indefinite_walk sought p k bs ≡ chunks_walk sought k (length bs) 0 bs
+  unfolding indefinite_walk
+  indefinite_chunks keeps not_5 not_4 = seen_kept (found sought indefinite_length) (length bs) _ keeps ∙ rw (ne_eqb k 5 not_5, ne_eqb k 4 not_4) refl
 
   module _ (n : ℕ) where
-    pub in_integer : k ≤ 1 → inside_walk terms p k n bs ≡ model.passed bs
+    pub in_integer : k ≤ 1 → inside_walk sought p k n bs ≡ model.passed bs
     unfolding inside_walk
     in_integer le = rw (le-leb k 1 le) refl
 
-    pub in_string : 1 < k → k ≤ 3 → inside_walk terms p k n bs ≡ past n bs
+    pub in_string : 1 < k → k ≤ 3 → inside_walk sought p k n bs ≡ past n bs
     unfolding inside_walk
     in_string lt le = rw (lt-leb k 1 lt, le-leb k 3 le) refl
 
-    pub in_array : k ≡ 4 → inside_walk terms p k n bs ≡ all_walk p false n bs
+    pub in_array : k ≡ 4 → inside_walk sought p k n bs ≡ all_walk p n bs
     unfolding inside_walk
     in_array is = rw is refl
 
-    pub in_map : k ≡ 5 → inside_walk terms p k n bs ≡ pairs_walk terms p false n [] bs
+    pub in_map : k ≡ 5 → inside_walk sought p k n bs ≡ pairs_walk sought p false n [] bs
     unfolding inside_walk
     in_map is = rw is refl
 
-    pub in_tag : 5 < k → inside_walk terms p k n bs ≡ p bs
+    pub in_tag : 5 < k → inside_walk sought p k n bs ≡ p bs
     unfolding inside_walk
     in_tag lt =
         let not_4 : k ≡ 4 → ⊥ = λ is. omega (arith, lt, is) in
@@ -302,15 +350,15 @@ module _ (terms : Terms) (p : List ℕ → model.Walk) (k : ℕ) (bs : List ℕ)
         rw (lt-leb k 1 not_1, lt-leb k 3 not_3, ne_eqb k 4 not_4, ne_eqb k 5 not_5) refl
 
 -- past a head, whose number breaks a rule or none
-module _ (terms : Terms) (p : List ℕ → model.Walk) (major low n left : ℕ) (bs : List ℕ) (is : number_behind low bs ≡ Ok (n, last left bs)) where
-  head_on : head_walk terms p major low bs ≡ seen terms (number major (width_of low) n) (length (last left bs)) (inside_walk terms p major n (last left bs))
-  head_on = number_on (λ n rest. seen terms (number major (width_of low) n) (length rest) (inside_walk terms p major n rest)) (number_behind low bs) n (last left bs) is
+module _ (sought : Sought) (p : List ℕ → model.Walk) (major low n left : ℕ) (bs : List ℕ) (is : number_behind low bs ≡ Ok (n, last left bs)) where
+  head_on : head_walk sought p major low bs ≡ seen sought (number major (width_of low) n) (length (last left bs)) (inside_walk sought p major n (last left bs))
+  head_on = number_on (λ n rest. seen sought (number major (width_of low) n) (length rest) (inside_walk sought p major n rest)) (number_behind low bs) n (last left bs) is
 
-  pub head_departs : (rule : Rule) → broken terms (number major (width_of low) n) ≡ Some rule → head_walk terms p major low bs ≡ model.departed rule (length (last left bs))
-  head_departs rule breaks = head_on ∙ seen_broken rule (broken terms (number major (width_of low) n)) (length (last left bs)) _ breaks
+  pub head_departs : (rule : Rule) → found sought (number major (width_of low) n) ≡ Some rule → head_walk sought p major low bs ≡ model.departed rule (length (last left bs))
+  head_departs rule breaks = head_on ∙ seen_broken rule (found sought (number major (width_of low) n)) (length (last left bs)) _ breaks
 
-  pub head_keeps : broken terms (number major (width_of low) n) ≡ None → head_walk terms p major low bs ≡ inside_walk terms p major n (last left bs)
-  head_keeps keeps = head_on ∙ seen_kept (broken terms (number major (width_of low) n)) (length (last left bs)) _ keeps
+  pub head_keeps : found sought (number major (width_of low) n) ≡ None → head_walk sought p major low bs ≡ inside_walk sought p major n (last left bs)
+  head_keeps keeps = head_on ∙ seen_kept (found sought (number major (width_of low) n)) (length (last left bs)) _ keeps
 
-pub head_end : (terms : Terms) (p : List ℕ → model.Walk) (major low : ℕ) (bs : List ℕ) → IsErr (number_behind low bs) → head_walk terms p major low bs ≡ model.stopped
-head_end terms p major low bs is = number_end (λ n rest. seen terms (number major (width_of low) n) (length rest) (inside_walk terms p major n rest)) (number_behind low bs) is
+pub head_end : (sought : Sought) (p : List ℕ → model.Walk) (major low : ℕ) (bs : List ℕ) → IsErr (number_behind low bs) → head_walk sought p major low bs ≡ model.stopped
+head_end sought p major low bs is = number_end (λ n rest. seen sought (number major (width_of low) n) (length rest) (inside_walk sought p major n rest)) (number_behind low bs) is

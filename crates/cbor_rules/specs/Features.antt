@@ -16,6 +16,10 @@ pub data Feature : Type 0 where
   float_bits : FloatWidth → ℕ → Feature
   -- the encodings of the keys before it in its map, the latest first, and of a key
   key : List (List ℕ) → List ℕ → Feature
+  -- an item of an array of indefinite length, and how many are before it
+  nth_item : ℕ → Feature
+  -- a chunk of a string, and how many bytes the string has with it
+  chunk_to : ℕ → Feature
 
 -- a feature, and the offset after the bytes that show it
 pub record Place : Type 0 where
@@ -42,12 +46,13 @@ abbrev pub length_end : ℕ → ℕ → Length → ℕ → ℕ
 length_end at major (definite w) n = head_end at major w n
 length_end at major indefinite n = suc at
 
--- the chunks of a string, from this offset on
-abbrev pub chunk_places : ℕ → ℕ → List Chunk → List Place
-chunk_places at major [] = []
-chunk_places at major (c ∷ cs) =
+-- the chunks of a string, from this offset on, after chunks of so many bytes
+abbrev pub chunk_places : ℕ → ℕ → ℕ → List Chunk → List Place
+chunk_places at major sum [] = []
+chunk_places at major sum (c ∷ cs) =
     number_place at major c.width (length c.bytes)
-    ∷ chunk_places (at + length (chunk major c)) major cs
+    ∷ place (head_end at major c.width (length c.bytes)) (chunk_to (sum + length c.bytes))
+    ∷ chunk_places (at + length (chunk major c)) major (sum + length c.bytes) cs
 
 -- The features of an item at this offset, in the order of the bytes.
 unfoldable mutual
@@ -56,10 +61,12 @@ unfoldable mutual
   features at (negative w n) = number_place at 1 w n ∷ []
   features at (bytes c) = number_place at 2 c.width (length c.bytes) ∷ []
   features at (text c) = number_place at 3 c.width (length c.bytes) ∷ []
-  features at (bytes_chunks cs) = place (suc at) indefinite_length ∷ chunk_places (suc at) 2 cs
-  features at (text_chunks cs) = place (suc at) indefinite_length ∷ chunk_places (suc at) 3 cs
-  features at (array l rs) =
-      length_place at 4 l (count rs) ∷ all_features (length_end at 4 l (count rs)) rs
+  features at (bytes_chunks cs) = place (suc at) indefinite_length ∷ chunk_places (suc at) 2 0 cs
+  features at (text_chunks cs) = place (suc at) indefinite_length ∷ chunk_places (suc at) 3 0 cs
+  features at (array (definite w) rs) =
+      number_place at 4 w (count rs) ∷ all_features (head_end at 4 w (count rs)) rs
+  features at (array indefinite rs) =
+      place (suc at) indefinite_length ∷ open_features (suc at) 0 rs
   features at (map l ps) =
       length_place at 5 l (pair_count ps)
       ∷ pair_features (length_end at 5 l (pair_count ps)) [] ps
@@ -70,6 +77,14 @@ unfoldable mutual
   pub all_features : ℕ → Raws → List Place
   all_features at no_raws = []
   all_features at (raw r rs) = features at r ++ all_features (at + length (spell r)) rs
+
+  -- of items of an indefinite length, after so many
+  pub open_features : ℕ → ℕ → Raws → List Place
+  open_features at earlier no_raws = []
+  open_features at earlier (raw r rs) =
+      features at r
+      ++ (place (at + length (spell r)) (nth_item earlier)
+      ∷ open_features (at + length (spell r)) (earlier + 1) rs)
 
   -- of pairs after keys of these bytes
   pub pair_features : ℕ → List (List ℕ) → RawPairs → List Place
@@ -84,7 +99,7 @@ unfoldable mutual
 
 -- 9f 18 17 ff
 open_array : features 0 (array indefinite (raw (unsigned one_byte 23) no_raws))
-    ≡ place 1 indefinite_length ∷ place 3 (number 0 one_byte 23) ∷ []
+    ≡ place 1 indefinite_length ∷ place 3 (number 0 one_byte 23) ∷ place 3 (nth_item 0) ∷ []
 unfolding features spell
 open_array = refl
 

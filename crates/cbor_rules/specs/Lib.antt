@@ -8,3 +8,4 @@ pub mod NextItem
 pub mod Texts
 pub mod Presets
 pub mod Unique
+pub mod Limits

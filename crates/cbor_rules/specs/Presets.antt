@@ -33,6 +33,9 @@ any_item = record {
   one_nan = false;
   no_undefined = false;
   no_tags = false;
+  most_items = None;
+  most_pairs = None;
+  most_bytes = None;
 }
 
 -- no key of a map twice (RFC 8949, section 5.6; RFC 9052, section 9)

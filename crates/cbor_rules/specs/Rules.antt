@@ -1,7 +1,8 @@
 -- Which features break a rule, which items keep the rules that are on, and the first departure.
 use Rattle.std.specs.Prelude.{◌≡◌, ℕ, ◌≤◌, ◌/◌, ◌^◌, Bool, true, false, List, [], ◌∷◌, Option, Some, None}
 use Rattle.std.specs.Prelude.{Result, Ok, Err}
-use Rattle.std.specs.Prelude.{◌&&◌, ◌==◌, not, nat_le, nat_lt, is_some, if◌then◌else◌, slice_index, refl}
+use Rattle.std.specs.Prelude.{◌&&◌, ◌||◌, ◌==◌, not, nat_le, nat_lt, is_some, if◌then◌else◌, length}
+use Rattle.std.specs.Prelude.{slice_index, refl}
 use Rattle.std.specs.List.{AllByRecursion, Contains, list_any}
 use Rattle.std.specs.Ordering.{is_eq, ordering_then, nat_cmp}
 use Rattle.std.specs.declared.cmp.Ordering.{Ordering}
@@ -9,8 +10,8 @@ use Rattle.std.specs.declared.cmp.Ordering.TheVariants.{Less, Equal, Greater}
 use Rattle.cbor_model.specs.Head.{HeadWidth, no_bytes, one_byte, two_bytes, four_bytes, eight_bytes}
 use Rattle.cbor_model.specs.Head.{limit}
 use Rattle.cbor_model.specs.Raw.{Raw, FloatWidth, half, single, null_item, undefined_item}
-use Rattle.cbor_model.specs.Raw.{unsigned, negative, array, map, tag, simple, float, definite, raw}
-use Rattle.cbor_model.specs.Raw.{no_raws, no_raw_pairs, raw_pair}
+use Rattle.cbor_model.specs.Raw.{unsigned, negative, array, map, tag, simple, float}
+use Rattle.cbor_model.specs.Raw.{definite, indefinite, raw, no_raws, no_raw_pairs, raw_pair}
 use Rattle.std.specs.Float.Ieee.{fits, odd, of_bits, of_fields, to_bits}
 use Rattle.cbor_model.specs.Plain as plain
 use Rattle.cbor_model.specs.Plain.{Val}
@@ -23,8 +24,8 @@ use Rattle.cbor_value.specs.Floats as floats
 use Rattle.cbor_value.specs.Shortest.{shortest}
 use Rattle.cbor_forms.specs.Reduced.{integer_of}
 use Rattle.cbor_forms.specs.LengthFirst.{by_length}
-use Rattle.cbor_rules.specs.Features.{Feature, number, indefinite_length, simple_item, float_bits, key, Place}
-use Rattle.cbor_rules.specs.Features.{features}
+use Rattle.cbor_rules.specs.Features.{Feature, number, indefinite_length, simple_item, float_bits, key}
+use Rattle.cbor_rules.specs.Features.{nth_item, chunk_to, Place, features}
 use Rattle.cbor_rules.specs.declared.settings.Rules.{Rules}
 use Rattle.cbor_rules.specs.declared.settings.KeyOrder.{KeyOrder}
 use Rattle.cbor_rules.specs.declared.settings.KeyOrder.TheVariants.{Any, Unique, Bytewise, LengthFirst}
@@ -34,6 +35,7 @@ use Rattle.cbor_rules.specs.declared.settings.Rule.TheVariants.{ShortestHeads, D
 use Rattle.cbor_rules.specs.declared.settings.Rule.TheVariants.{PlainKeys, AscendingKeys, OneNan}
 use Rattle.cbor_rules.specs.declared.settings.Rule.TheVariants.{UniqueKeys, ReducedNumbers}
 use Rattle.cbor_rules.specs.declared.settings.Rule.TheVariants.{ShortestFloats, NoUndefined, NoTags}
+use Rattle.cbor_rules.specs.declared.settings.Rule.TheVariants.{MostItems, MostPairs, MostBytes}
 use Rattle.cbor_rules.specs.declared.answers.Departure.{Departure}
 
 -- a number below this fits a narrower width
@@ -126,6 +128,16 @@ only rules = under rules []
 abbrev pub is_among : ℕ → List ℕ → Bool
 is_among n tags = list_any (λ m. m == n) tags
 
+-- there is a limit, and so many are more
+abbrev pub exceeds : Option ℕ → ℕ → Bool
+exceeds None n = false
+exceeds (Some most) n = nat_lt most n
+
+-- there is a limit, and after so many no other may come
+abbrev pub is_reached : Option ℕ → ℕ → Bool
+is_reached None n = false
+is_reached (Some most) n = nat_le most n
+
 -- whether a rule is on, and this feature breaks it
 abbrev pub breaks : Terms → Rule → Feature → Bool
 breaks terms ShortestHeads (number m w n) = nat_lt n (floor w) && terms.rules.shortest_heads
@@ -143,6 +155,13 @@ breaks terms PlainKeys (key earlier k) = terms.rules.plain_keys && is_compound k
 breaks terms AscendingKeys (key earlier k) =
     not (is_less (key_cmp terms.rules.keys (latest earlier) k))
 breaks terms UniqueKeys (key earlier k) = is_unique terms.rules.keys && is_repeated earlier k
+breaks terms MostItems (number m w n) = (m == 4) && exceeds terms.rules.most_items n
+breaks terms MostItems (nth_item earlier) = is_reached terms.rules.most_items earlier
+breaks terms MostPairs (number m w n) = (m == 5) && exceeds terms.rules.most_pairs n
+breaks terms MostPairs (key earlier k) = is_reached terms.rules.most_pairs (length earlier)
+breaks terms MostBytes (number m w n) =
+    ((m == 2) || (m == 3)) && exceeds terms.rules.most_bytes n
+breaks terms MostBytes (chunk_to n) = exceeds terms.rules.most_bytes n
 breaks terms _ _ = false
 
 -- at each of the places the rule is kept, or it is off
@@ -164,8 +183,8 @@ first_broken terms f (rule ∷ others) =
 -- each rule
 abbrev pub all_rules : List Rule
 all_rules =
-    ShortestHeads ∷ DefiniteLengths ∷ PlainKeys ∷ AscendingKeys ∷ UniqueKeys ∷ ReducedNumbers
-    ∷ ShortestFloats ∷ OneNan ∷ NoUndefined ∷ NoTags ∷ []
+    MostItems ∷ MostPairs ∷ MostBytes ∷ ShortestHeads ∷ DefiniteLengths ∷ PlainKeys ∷ AscendingKeys
+    ∷ UniqueKeys ∷ ReducedNumbers ∷ ShortestFloats ∷ OneNan ∷ NoUndefined ∷ NoTags ∷ []
 
 abbrev pub broken : Terms → Feature → Option Rule
 broken terms f = first_broken terms f all_rules
@@ -220,6 +239,9 @@ keys_only order = record {
   one_nan = false;
   no_undefined = false;
   no_tags = false;
+  most_items = None;
+  most_pairs = None;
+  most_bytes = None;
 }
 
 -- a2 18 64 f6 20 f6, of RFC 8949, 4.2.1: 20 is above 18 64 by its bytes, and shorter
@@ -302,3 +324,10 @@ other_tag : first_departure (under (record (keys_only Any) { no_tags = true }) (
     ≡ Some (record { rule = NoTags; offset = 2 })
 unfolding first_departure features spell
 other_tag = refl
+
+-- 9f 00 01 ff, of two items
+one_too_many : first_departure (only (record (keys_only Any) { most_items = Some 1 }))
+    (array indefinite (raw (unsigned no_bytes 0) (raw (unsigned no_bytes 1) no_raws)))
+    ≡ Some (record { rule = MostItems; offset = 3 })
+unfolding first_departure features spell
+one_too_many = refl

@@ -7,6 +7,7 @@ use Rattle.cbor_rules.specs.declared.settings.Rule.TheVariants.{ShortestHeads, D
 use Rattle.cbor_rules.specs.declared.settings.Rule.TheVariants.{PlainKeys, AscendingKeys, OneNan}
 use Rattle.cbor_rules.specs.declared.settings.Rule.TheVariants.{UniqueKeys, ReducedNumbers}
 use Rattle.cbor_rules.specs.declared.settings.Rule.TheVariants.{ShortestFloats, NoUndefined, NoTags}
+use Rattle.cbor_rules.specs.declared.settings.Rule.TheVariants.{MostItems, MostPairs, MostBytes}
 use Rattle.cbor_rules.specs.declared.answers.Departure.{Departure}
 use Rattle.cbor_rules.specs.declared.answers.Refusal.{Refusal}
 use Rattle.cbor_rules.specs.declared.answers.Refusal.TheVariants.{Unread, Departs}
@@ -23,6 +24,9 @@ rule_text ShortestFloats = codes "float not the shortest"
 rule_text OneNan = codes "NaN other than f97e00"
 rule_text NoUndefined = codes "undefined"
 rule_text NoTags = codes "tag not allowed"
+rule_text MostItems = codes "array too long"
+rule_text MostPairs = codes "map too long"
+rule_text MostBytes = codes "string too long"
 
 abbrev pub departure_text : Departure → List ℕ
 departure_text d = rule_text d.rule ++ (codes " at offset " ++ decimal d.offset)

@@ -1,10 +1,10 @@
--- Items whose maps have no key twice.
-use Rattle.std.specs.Prelude.{◌≡◌, ◌↔◌, ℕ, ◌^◌, ◌<◌, List, [], ◌∷◌, length}
+-- Items whose maps have no key twice, and items that have a key.
+use Rattle.std.specs.Prelude.{◌≡◌, ◌↔◌, ◌⊎◌, ℕ, ◌^◌, ◌<◌, List, [], ◌∷◌, length}
 use Rattle.std.specs.List.{AllByRecursion}
 use Rattle.cbor_model.specs.Laws.{SpellsValue}
 use Rattle.cbor_model.specs.Plain.{Val}
 use Rattle.cbor_model.specs.Raw.{Raw, Raws, no_raws, raw, RawPairs, no_raw_pairs, raw_pair, array}
-use Rattle.cbor_model.specs.Raw.{map, tag}
+use Rattle.cbor_model.specs.Raw.{map, tag, pair_count}
 use Rattle.cbor_model.specs.Value.{value}
 use Rattle.cbor_rules.specs.Rules.{Terms, KeepsRule}
 use Rattle.cbor_rules.specs.declared.settings.KeyOrder.TheVariants.{Unique}
@@ -29,6 +29,18 @@ abbrev mutual
   PairsHaveUniqueKeys earlier (raw_pair k v ps) =
       HasUniqueKeys k × AllByRecursion (λ e. e ≡ value k → ⊥) earlier
       × HasUniqueKeys v × PairsHaveUniqueKeys (value k ∷ earlier) ps
+
+-- Some map in the item has a pair.
+abbrev mutual
+  pub HasPair : Raw → Type 0
+  HasPair (array l rs) = HavePair rs
+  HasPair (map l ps) = 0 < pair_count ps
+  HasPair (tag w n r) = HasPair r
+  HasPair _ = ⊥
+
+  pub HavePair : Raws → Type 0
+  HavePair no_raws = ⊥
+  HavePair (raw r rs) = HasPair r ⊎ HavePair rs
 
 -- An acceptable item keeps the rule of unique keys exactly where no map in it has a key twice.
 abbrev pub UniqueKeysAreKept : Type 0

@@ -1,6 +1,6 @@
 -- What going through bytes answers.
-use Rattle.std.specs.Prelude.{⊤, true, ◌≡◌, ◌-◌, ◌<◌, ◌≤◌, ℕ, List, length, drop, Option, Some, None, Ok}
-use Rattle.std.specs.Prelude.{IsErr}
+use Rattle.std.specs.Prelude.{⊤, true, ◌≡◌, ◌+◌, ◌-◌, ◌<◌, ◌≤◌, ℕ, List, length, drop, Option}
+use Rattle.std.specs.Prelude.{Some, None, Result, Ok, Err, IsErr}
 use Rattle.cbor_model.specs.Head.{limit}
 use Rattle.cbor_model.specs.Raw.{half, single, double}
 use Rattle.cbor_model.specs.Reader.{number_behind, width_of}
@@ -29,10 +29,16 @@ abbrev pub HadMemory : Walk → Type 0
 HadMemory NoMemory = ⊥
 HadMemory _ = ⊤
 
--- memory runs out only where each value may be a key once
-abbrev pub EndsForMemory : Rules → Walk → Type 0
-EndsForMemory rules NoMemory = is_unique rules.keys ≡ true
-EndsForMemory rules _ = ⊤
+abbrev pub IsDeparted : model.Walk → Type 0
+IsDeparted (model.departed rule left) = ⊤
+IsDeparted _ = ⊥
+
+-- Memory runs out only where each value may be a key once and there is a key: where the model that
+-- looks for any departs, with fuel for all of the bytes.
+abbrev pub EndsForMemory : Rules → List ℕ → (ℕ → List ℕ → model.Walk) → Walk → Type 0
+EndsForMemory rules bs go NoMemory =
+    (is_unique rules.keys ≡ true) × ((fuel : ℕ) → length bs ≤ fuel → IsDeparted (go fuel bs))
+EndsForMemory rules bs go _ = ⊤
 
 -- no more than so many bytes are left
 abbrev pub IsWithin : ℕ → Walk → Type 0
@@ -64,3 +70,14 @@ float_feature (Double bits) = float_bits double bits
 abbrev pub IsAfter : Option Rule → ℕ → Walk → Type 0
 IsAfter None left r = r ≡ Passed left
 IsAfter (Some rule) left r = r ≡ Departed rule left
+
+-- What comes of a chunk: how many bytes the string has with it, and how many are left; or the
+-- answer.
+abbrev pub chunk_view : (ℕ → List ℕ → model.Walk) → List ℕ → Result (ℕ × ℕ) Walk → model.Walk
+chunk_view go bs (Ok r) = go r.0 (last r.1 bs)
+chunk_view go bs (Err w) = walk_view bs w
+
+-- With a chunk as many bytes are counted as it has at the most.
+abbrev pub IsChunkWithin : ℕ → ℕ → Result (ℕ × ℕ) Walk → Type 0
+IsChunkWithin sum n (Ok r) = (r.0 + r.1 ≤ sum + n) × (r.1 ≤ n)
+IsChunkWithin sum n (Err w) = IsWithin n w × HadMemory w

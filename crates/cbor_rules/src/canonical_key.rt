@@ -1,11 +1,13 @@
 //! The canonical encoding of a key's value, by which keys of one value are found.
 
-ghost use Rattle.std.specs.Prelude.{◌≡◌, ◌<◌, ◌^◌, length, IfErr, IfOk, IsTrue};
+ghost use Rattle.std.specs.Prelude.{◌≡◌, ◌<◌, ◌^◌, length, IfErr, IfOk, IsOk, IsTrue};
 ghost use Rattle.std.specs.Cow.{cow_slice_items};
 ghost use Rattle.cbor_model.specs.Canonical.{canon, IsStorable};
+ghost use Rattle.cbor_model.specs.Plain.{Val};
 ghost use Rattle.cbor_model.specs.Raw.{AreBytes};
 ghost use Rattle.cbor_value.specs.View.{view};
 ghost use Rattle.cbor_io.specs.Error.{IsOutOfMemory};
+ghost use Rattle.cbor_strict.specs.Strict.{SpellsCanonically};
 ghost use Rattle.cbor_rules.specs.Rules.{canonical_key};
 
 use cbor_de::{IgnoredAny, from_slice};
@@ -21,10 +23,12 @@ use std::borrow::CowSlice;
 /// that encode no value stand for themselves. Two keys are of one value exactly where these are
 /// equal.
 ///
-/// It takes memory, for the value and for its encoding, where the key isn't encoded canonically.
+/// It takes memory, for the value and for its encoding, only where the key isn't encoded
+/// canonically.
 pub(crate) fn canonical_key(alloc: Global, key: &[u8]) -> Result<CowSlice<'_, u8>>
     ensures bytes { IfOk result (λ bytes. cow_slice_items bytes ≡ canonical_key key.now) }
     ensures memory { IfErr result IsOutOfMemory }
+    ensures canonical { (v : Val) → SpellsCanonically key.now v → IsOk result }
 {
     reader_finds();
     are_bytes(key);
@@ -51,7 +55,8 @@ fn encoding<'a>(alloc: Global, value: &Value) -> Result<CowSlice<'a, u8>>
 
 /// Whether the key is encoded canonically. It takes no memory, but for one that isn't.
 fn is_canonical(alloc: Global, key: &[u8]) -> bool
-    ensures { IsTrue result → canonical_key key.now ≡ key.now }
+    ensures itself { IsTrue result → canonical_key key.now ≡ key.now }
+    ensures each { (v : Val) → SpellsCanonically key.now v → IsTrue result }
 {
     are_bytes(key);
     from_slice_canonical_as::<IgnoredAny>(alloc, key).is_ok()

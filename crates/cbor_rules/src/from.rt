@@ -15,6 +15,7 @@ ghost use Rattle.cbor_de.specs.Whole.{RefusesUnread, from_slice_asks, from_slice
 ghost use Rattle.cbor_rules.specs.Answers.{IfDeparts, IfUnread, IsMemory, SpellsByRules};
 ghost use Rattle.cbor_rules.specs.Answers.{SpellsDeparting, ReportsItsDeparture};
 ghost use Rattle.cbor_rules.specs.Rules.{is_unique, only, under};
+ghost use Rattle.cbor_rules.specs.Unique.{HasPair};
 
 use crate::answers::Refusal;
 use crate::settings::Rules;
@@ -29,13 +30,15 @@ use std::alloc::Global;
 /// departs from a rule is refused by its first departure: with the rule, and the offset after the
 /// bytes that show it. That is after the head for a head that isn't the shortest and for a tag,
 /// after the first byte of an indefinite length, after a float or an undefined, and after a key
-/// that is not plain or may not follow the ones before it. What is reported of a head comes before
-/// what is reported of the key that it ends.
+/// that is not plain or may not follow the ones before it. An array, a map or a string that is too
+/// long is refused after its head; in an indefinite length after the item or the key that is one
+/// too many, and after the head of the chunk with which its bytes are too many. What is reported of
+/// a head comes before what is reported of the key that it ends.
 ///
-/// No memory is taken beyond that of `from_slice`, but under `KeyOrder::Unique`: there each map's
-/// keys are kept while the map is gone through, as references to their bytes, and a key that isn't
-/// encoded canonically as its value's canonical encoding, which is no longer than the key. A key is
-/// compared with as many as the logarithm of their number.
+/// No memory is taken beyond that of `from_slice`, but under `KeyOrder::Unique` where some map in
+/// the item has a pair: there each map's keys are kept while the map is gone through, as references
+/// to their bytes, and a key that isn't encoded canonically as its value's canonical encoding, which
+/// is no longer than the key. A key is compared with as many as the logarithm of their number.
 ///
 /// ```rust
 /// let numbers: [u8; 2] = from_slice_with(alloc, &[0x82, 0x01, 0x02], Rules::DETERMINISTIC)?;
@@ -80,11 +83,11 @@ pub fn from_slice_with<'a, T: Deserialize<'a, SliceRead<'a>>>(
     ensures fault { IfErr result (IfUnread (λ e. WhereTotal T.passes_over
         (IsOutOfMemory e ⊎ RefusesUnread (T.reads from_slice_context) None slice.now e))) }
     // Memory runs out only for an item for which the type may ask for it, or where each value may
-    // be a key once.
+    // be a key once and some map in the item has a pair.
     ensures memory { (x : T)
         → (spelt : SpellsAs all_formats (T.reads from_slice_context) slice.now x)
-        → IfErr result (IfUnread
-        (λ e. T.asks_memory from_slice_asks spelt.item ⊎ (is_unique rules.keys ≡ true))) }
+        → IfErr result (IfUnread (λ e. T.asks_memory from_slice_asks spelt.item
+        ⊎ ((is_unique rules.keys ≡ true) × HasPair spelt.item))) }
 {
     from_slice_with_tags(alloc, slice, rules, &[])
 }
@@ -134,11 +137,11 @@ pub fn from_slice_with_tags<'a, T: Deserialize<'a, SliceRead<'a>>>(
     ensures fault { IfErr result (IfUnread (λ e. WhereTotal T.passes_over
         (IsOutOfMemory e ⊎ RefusesUnread (T.reads from_slice_context) None slice.now e))) }
     // Memory runs out only for an item for which the type may ask for it, or where each value may
-    // be a key once.
+    // be a key once and some map in the item has a pair.
     ensures memory { (x : T)
         → (spelt : SpellsAs all_formats (T.reads from_slice_context) slice.now x)
-        → IfErr result (IfUnread
-        (λ e. T.asks_memory from_slice_asks spelt.item ⊎ (is_unique rules.keys ≡ true))) }
+        → IfErr result (IfUnread (λ e. T.asks_memory from_slice_asks spelt.item
+        ⊎ ((is_unique rules.keys ≡ true) × HasPair spelt.item))) }
 {
     let value = from_slice::<T>(alloc, slice)?;
     match first_departure(alloc, rules, tags, slice)? {

@@ -4,7 +4,8 @@ ghost use Rattle.std.specs.Prelude.{◌≡◌, ◌<◌, nat_lt};
 ghost use Rattle.cbor_model.specs.Reader.{width_of};
 ghost use Rattle.cbor_value.specs.View.{float_view};
 ghost use Rattle.cbor_rules.specs.Features.{number};
-ghost use Rattle.cbor_rules.specs.Rules.{broken, float_size, floor, is_quiet_nan, only, under};
+ghost use Rattle.cbor_rules.specs.Rules.{broken, exceeds, float_size, floor, is_quiet_nan};
+ghost use Rattle.cbor_rules.specs.Rules.{is_reached, only, under};
 ghost use Rattle.cbor_rules.specs.Walks.{float_feature};
 
 use crate::settings::{Rule, Rules};
@@ -15,16 +16,22 @@ use cbor_value::Float;
 /// first byte with these lower five bits. These tags stand where tags are refused.
 #[inline(always)]
 pub(crate) fn broken_by_number(
-    rules: Rules,
+    rules: &Rules,
     tags: &[u64],
     major: u8,
     low: u8,
     n: u64,
 ) -> Option<Rule>
     requires { low < 28 }
-    ensures { result ≡ broken (under rules tags.now) (number major (width_of low) n) }
+    ensures { result ≡ broken (under rules.now tags.now) (number major (width_of low) n) }
 {
-    if rules.shortest_heads && is_long(low, n) {
+    if major == 4 && exceeds(rules.most_items, n) {
+        Some(Rule::MostItems)
+    } else if major == 5 && exceeds(rules.most_pairs, n) {
+        Some(Rule::MostPairs)
+    } else if (major == 2 || major == 3) && exceeds(rules.most_bytes, n) {
+        Some(Rule::MostBytes)
+    } else if rules.shortest_heads && is_long(low, n) {
         Some(Rule::ShortestHeads)
     } else if rules.reduced_numbers && major == 1 && 1 << 63 <= n {
         Some(Rule::ReducedNumbers)
@@ -32,6 +39,28 @@ pub(crate) fn broken_by_number(
         Some(Rule::NoTags)
     } else {
         None
+    }
+}
+
+/// Whether there is a limit, and so many are more.
+#[inline(always)]
+pub(crate) fn exceeds(most: Option<u64>, n: u64) -> bool
+    ensures { result ≡ exceeds most n }
+{
+    match most {
+        Some(most) => most < n,
+        None => false,
+    }
+}
+
+/// Whether there is a limit, and after so many no other may come.
+#[inline(always)]
+pub(crate) fn is_reached(most: Option<u64>, n: u64) -> bool
+    ensures { result ≡ is_reached most n }
+{
+    match most {
+        Some(most) => most <= n,
+        None => false,
     }
 }
 
@@ -51,8 +80,8 @@ fn is_long(low: u8, n: u64) -> bool
 }
 
 /// The rule that a float breaks, if it does.
-pub(crate) fn broken_by_float(rules: Rules, float: Float) -> Option<Rule>
-    ensures { result ≡ broken (only rules) (float_feature float) }
+pub(crate) fn broken_by_float(rules: &Rules, float: Float) -> Option<Rule>
+    ensures { result ≡ broken (only rules.now) (float_feature float) }
 {
     if rules.reduced_numbers && integer_of(float).is_some() {
         return Some(Rule::ReducedNumbers);

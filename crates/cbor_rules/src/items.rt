@@ -54,6 +54,7 @@ impl<'a, 't> RuledItems<'a, 't> {
     ghost use Rattle.cbor_rules.specs.NextItem.{BeginsByRules, BeginsDeparting, GivesNext};
     ghost use Rattle.cbor_rules.specs.NextItem.{RefusesNext, ReportsDepartureFrom};
     ghost use Rattle.cbor_rules.specs.Rules.{is_unique, only, under};
+    ghost use Rattle.cbor_rules.specs.Unique.{HasPair};
 
     /// The items of this slice, none of them taken, by these rules.
     pub fn new(alloc: Global, slice: &'a [u8], rules: Rules) -> RuledItems<'a, 't>
@@ -150,12 +151,12 @@ impl<'a, 't> RuledItems<'a, 't> {
         ensures fault { IfErr result (IfUnread (λ e. WhereTotal T.passes_over (IsOutOfMemory e
             ⊎ RefusesNext (T.reads from_slice_context) (standing self.old) e))) }
         // Memory runs out only for an item for which the type may ask for it, or where each value
-        // may be a key once.
+        // may be a key once and some map in the item has a pair.
         ensures memory { (x : T) (rest : List ℕ)
             → (front : BeginsAs all_formats max_depth (T.reads from_slice_context)
             (to_come (standing self.old)) x rest)
             → IfErr result (IfUnread (λ e. T.asks_memory from_slice_asks front.item
-            ⊎ (is_unique (standing self.old).terms.rules.keys ≡ true))) }
+            ⊎ ((is_unique (standing self.old).terms.rules.keys ≡ true) × HasPair front.item))) }
     {
         if self.taken == self.slice.len() {
             return Ok(None);

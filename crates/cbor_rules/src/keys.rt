@@ -1,6 +1,6 @@
 //! Whether a key may follow those before it in its map.
 
-ghost use Rattle.std.specs.Prelude.{◌≡◌, ◌∷◌, ℕ, List, [], None, true, IfErr, IfOk, OnErr};
+ghost use Rattle.std.specs.Prelude.{◌≡◌, ◌∷◌, ℕ, List, [], length, None, true, IfErr, IfOk, OnErr};
 ghost use Rattle.cbor_model.specs.Order.{lex};
 ghost use Rattle.cbor_io.specs.Error.{IsOutOfMemory};
 ghost use Rattle.cbor_forms.specs.LengthFirst.{by_length};
@@ -10,6 +10,7 @@ ghost use Rattle.cbor_rules.specs.Rules.{broken, is_compound, is_less, is_unique
 ghost use Rattle.cbor_rules.specs.Rules.{only};
 
 use crate::canonical_key::canonical_key;
+use crate::heads::is_reached;
 use crate::settings::{KeyOrder, Rule, Rules};
 use cbor_io::compare::compare;
 use cbor_io::error::Result;
@@ -38,21 +39,27 @@ impl<'a> Keys<'a> {
         }
     }
 
-    /// The rule that the next key breaks, if it does; otherwise it is passed.
+    /// The rule that the next key breaks, if it does, where so many were passed; otherwise it is
+    /// passed.
     #[inline(always)]
     pub(crate) fn pass(
         &mut self,
         alloc: Global,
-        rules: Rules,
+        rules: &Rules,
+        count: u64,
         next: &'a [u8],
     ) -> Result<Option<Rule>>
-        ensures broken { (passed : List (List ℕ)) → HasPassed rules self.old passed
-            → IfOk result (λ rule. rule ≡ broken (only rules) (key passed next.now)) }
-        ensures passed { (passed : List (List ℕ)) → HasPassed rules self.old passed
-            → IfOk result (λ rule. rule ≡ None → HasPassed rules self.new (next.now ∷ passed)) }
+        ensures broken { (passed : List (List ℕ)) → HasPassed rules.now self.old passed
+            → length passed ≡ count
+            → IfOk result (λ rule. rule ≡ broken (only rules.now) (key passed next.now)) }
+        ensures passed { (passed : List (List ℕ)) → HasPassed rules.now self.old passed
+            → IfOk result (λ rule. rule ≡ None → HasPassed rules.now self.new (next.now ∷ passed)) }
         ensures memory { IfErr result IsOutOfMemory }
-        ensures unique { OnErr result (is_unique rules.keys ≡ true) }
+        ensures unique { OnErr result (is_unique rules.now.keys ≡ true) }
     {
+        if is_reached(rules.most_pairs, count) {
+            return Ok(Some(Rule::MostPairs));
+        }
         if rules.plain_keys && is_compound(next) {
             return Ok(Some(Rule::PlainKeys));
         }

@@ -9,6 +9,7 @@ ghost use Rattle.cbor_rules.specs.Rules.{FirstIsLeast, NoneWhereKept};
 ghost use Rattle.cbor_rules.specs.Presets.{any_item, canonical, ctap2, dcbor, deterministic};
 ghost use Rattle.cbor_rules.specs.Presets.{length_first, unique_keys};
 ghost use Rattle.cbor_rules.specs.Unique.{UniqueKeysAreKept};
+ghost use Rattle.cbor_rules.specs.Limits.{BytesAreFew, ItemsAreFew, PairsAreFew};
 ghost use Rattle.cbor_rules.specs.Presets.{AcceptedIsWritten, WrittenIsAccepted, defined};
 ghost use Rattle.cbor_rules.specs.Presets.{IsCanonicalOf, IsDeterministicOf, IsLengthFirstOf};
 ghost use Rattle.cbor_rules.specs.Presets.{IsCtap2Of, TypeFirstIsBytewise};
@@ -35,6 +36,14 @@ pub fn first_is_least()
 /// twice.
 pub fn unique_keys_are_kept()
     ensures { UniqueKeysAreKept }
+{}
+
+/// An item keeps a limit exactly where each array in it has as many items at the most, each map as
+/// many pairs, or each string as many bytes, its chunks joined.
+pub fn limits_are_kept()
+    ensures items { ItemsAreFew }
+    ensures pairs { PairsAreFew }
+    ensures bytes { BytesAreFew }
 {}
 
 /// Which rules are on in each preset.

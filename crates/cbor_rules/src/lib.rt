@@ -1,11 +1,13 @@
 //! Reading by rules of one's own: each strictness by itself, and each deterministic form by name.
 //!
 //! The ordinary reader reads; a walk over the same bytes then looks for the first departure from
-//! the rules that are on, without memory but for keys that may stand in any order once.
+//! the rules that are on, without memory but for keys that may stand in any order once. Limits are
+//! rules too: the most items of an array, pairs of a map and bytes of a string.
 #![tactic(auto)]
 
 mod answers;
 mod canonical_key;
+mod chunks;
 mod from;
 mod front;
 mod heads;
@@ -23,8 +25,8 @@ pub use laws::{
     canonical_accepted_is_written, canonical_written_is_accepted, ctap2_accepted_is_written,
     ctap2_written_is_accepted, dcbor_accepted_is_written, dcbor_written_is_accepted,
     deterministic_accepted_is_written, deterministic_written_is_accepted, first_is_least,
-    length_first_accepted_is_written, length_first_written_is_accepted, none_where_kept, presets,
-    reduced_has_reduced_numbers, shortened_has_shortest_floats, type_first_is_bytewise,
-    unique_keys_are_kept,
+    length_first_accepted_is_written, length_first_written_is_accepted, limits_are_kept,
+    none_where_kept, presets, reduced_has_reduced_numbers, shortened_has_shortest_floats,
+    type_first_is_bytewise, unique_keys_are_kept,
 };
 pub use settings::{KeyOrder, Rule, Rules};

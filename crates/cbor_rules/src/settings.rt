@@ -46,6 +46,12 @@ pub enum Rule {
     NoUndefined,
     /// No item has a tag.
     NoTags,
+    /// No array has more items than there may be.
+    MostItems,
+    /// No map has more pairs than there may be.
+    MostPairs,
+    /// No string has more bytes than there may be, its chunks joined.
+    MostBytes,
 }
 
 /// The rules that are on.
@@ -53,6 +59,19 @@ pub enum Rule {
 /// ```rust
 /// let rules = Rules { no_tags: true, ..Rules::DETERMINISTIC };
 /// assert!(rt; rules.shortest_heads);
+/// ```
+///
+/// An item is read before the rules are looked at, so a limit bounds what is kept, and not what
+/// memory reading it takes, which the input's length bounds. To have an item refused by its limits
+/// before memory is taken for it, read it as an `IgnoredAny` first, and then as its type. For an
+/// `IgnoredAny` memory is taken only to join the chunks of a string, and for a map's keys where
+/// each value may be a key once:
+///
+/// ```rust
+/// let limits = Rules { most_items: Some(2), most_bytes: Some(100), ..Rules::ANY };
+/// let bytes = b"\x82\x01\x61a";
+/// from_slice_with::<IgnoredAny>(alloc, bytes, limits)?;
+/// let value: Value = from_slice(alloc, bytes)?;
 /// ```
 #[derive(Clone, Copy, Debug, PartialEq, Eq)]
 pub struct Rules {
@@ -75,6 +94,12 @@ pub struct Rules {
     pub no_undefined: bool,
     /// Whether tags are refused.
     pub no_tags: bool,
+    /// The most items that an array may have, or None for any number.
+    pub most_items: Option<u64>,
+    /// The most pairs that a map may have, or None for any number.
+    pub most_pairs: Option<u64>,
+    /// The most bytes that a string may have, its chunks joined, or None for any number.
+    pub most_bytes: Option<u64>,
 }
 
 impl Rules {
@@ -89,6 +114,9 @@ impl Rules {
         one_nan: false,
         no_undefined: false,
         no_tags: false,
+        most_items: None,
+        most_pairs: None,
+        most_bytes: None,
     };
 
     /// No map has a key twice, which RFC 8949, section 5.6, asks of valid items, and COSE of its
@@ -111,6 +139,9 @@ impl Rules {
         one_nan: false,
         no_undefined: true,
         no_tags: false,
+        most_items: None,
+        most_pairs: None,
+        most_bytes: None,
     };
 
     /// The core deterministic encoding (RFC 8949, section 4.2.1): shortest heads and floats,
@@ -127,6 +158,9 @@ impl Rules {
         one_nan: true,
         no_undefined: false,
         no_tags: false,
+        most_items: None,
+        most_pairs: None,
+        most_bytes: None,
     };
 
     /// The deterministic encoding with shorter keys first (RFC 8949, section 4.2.3). It is what
@@ -141,6 +175,9 @@ impl Rules {
         one_nan: true,
         no_undefined: false,
         no_tags: false,
+        most_items: None,
+        most_pairs: None,
+        most_bytes: None,
     };
 
     /// The canonical form of CTAP2 (CTAP 2.1, section 8): shortest heads, definite lengths, keys
@@ -159,6 +196,9 @@ impl Rules {
         one_nan: false,
         no_undefined: false,
         no_tags: true,
+        most_items: None,
+        most_pairs: None,
+        most_bytes: None,
     };
 
     /// dCBOR (draft-mcnally-deterministic-cbor): the core deterministic encoding, with each number
@@ -175,6 +215,9 @@ impl Rules {
         one_nan: true,
         no_undefined: true,
         no_tags: false,
+        most_items: None,
+        most_pairs: None,
+        most_bytes: None,
     };
 
     /// These, with this order of keys.

@@ -22,6 +22,9 @@ impl Rule {
             Rule::OneNan => "NaN other than f97e00",
             Rule::NoUndefined => "undefined",
             Rule::NoTags => "tag not allowed",
+            Rule::MostItems => "array too long",
+            Rule::MostPairs => "map too long",
+            Rule::MostBytes => "string too long",
         }
     }
 }

@@ -12,13 +12,16 @@ ghost use Rattle.cbor_rules.specs.Features.{simple_item};
 ghost use Rattle.cbor_io.specs.Error.{IsOutOfMemory};
 ghost use Rattle.cbor_rules.specs.Rules.{broken, first_departure, is_unique, only, under};
 ghost use Rattle.cbor_rules.specs.Walk.{all_walk, content_walk, float_walk, head_walk, inside_walk};
-ghost use Rattle.cbor_rules.specs.Walk.{is_break, indefinite_walk, pairs_walk, past, simple_walk, walk};
-ghost use Rattle.cbor_rules.specs.Walk.{passed, seen, stopped};
+ghost use Rattle.cbor_rules.specs.Walk.{is_break, indefinite_walk, open_walk, pairs_walk};
+ghost use Rattle.cbor_rules.specs.Walk.{past, simple_walk, walk};
+ghost use Rattle.cbor_rules.specs.Unique.{HasPair};
+ghost use Rattle.cbor_rules.specs.Walk.{any_key, departure_from, passed, seen, stopped};
 ghost use Rattle.cbor_rules.specs.Walks.{last, float_feature, walk_view, IsNumber, IsWithin};
-ghost use Rattle.cbor_rules.specs.Walks.{EndsForMemory, IsAfter, StopsNumber, Walks};
+ghost use Rattle.cbor_rules.specs.Walks.{EndsForMemory, HadMemory, IsAfter, StopsNumber, Walks};
 
 use crate::answers::Departure;
-use crate::heads::{broken_by_float, broken_by_number};
+use crate::chunks::chunks;
+use crate::heads::{broken_by_float, broken_by_number, is_reached};
 use crate::keys::Keys;
 use crate::settings::{Rule, Rules};
 use cbor_io::error::Result;
@@ -41,7 +44,7 @@ pub enum Walk {
 /// The first departure of the item that the bytes encode, if there is one, where these tags stand
 /// that the rules refuse otherwise. Of other bytes nothing is said.
 ///
-/// Memory may run out where each value may be a key once.
+/// Memory runs out only where each value may be a key once and the item has a key.
 pub(crate) fn first_departure(
     alloc: Global,
     rules: Rules,
@@ -54,8 +57,9 @@ pub(crate) fn first_departure(
         (λ departure. IfSome departure (λ d. d.offset ≤ length bytes.now)) }
     ensures memory { IfErr result IsOutOfMemory }
     ensures unique { OnErr result (is_unique rules.keys ≡ true) }
+    ensures key { (r : Raw) → IsWellFormed r → spell r ≡ bytes.now → OnErr result (HasPair r) }
 {
-    match item(alloc, rules, tags, bytes) {
+    match item(alloc, &rules, tags, bytes) {
         Walk::Departed(rule, left) => Ok(Some(Departure {
             rule,
             offset: (bytes.len() - left) as u64,
@@ -68,11 +72,10 @@ pub(crate) fn first_departure(
 /// Goes past an item.
 #[cycle(walk)]
 #[inline(always)]
-fn item(alloc: Global, rules: Rules, tags: &[u64], bytes: &[u8]) -> Walk
-    ensures walks { Walks bytes.now (walk (under rules tags.now)) result }
-
+fn item(alloc: Global, rules: &Rules, tags: &[u64], bytes: &[u8]) -> Walk
+    ensures walks { Walks bytes.now (walk (departure_from (under rules.now tags.now))) result }
     ensures within { IsWithin (length bytes.now) result }
-    ensures memory { EndsForMemory rules result }
+    ensures memory { EndsForMemory rules.now bytes.now (walk any_key) result }
 {
     match bytes.split_first() {
         Some((first, rest)) => content(alloc, rules, tags, *first, rest),
@@ -82,12 +85,13 @@ fn item(alloc: Global, rules: Rules, tags: &[u64], bytes: &[u8]) -> Walk
 
 /// Goes past what follows a first byte.
 #[cycle(walk)]
-fn content(alloc: Global, rules: Rules, tags: &[u64], first: u8, bytes: &[u8]) -> Walk
-    ensures walks { let terms = under rules tags.now in
+fn content(alloc: Global, rules: &Rules, tags: &[u64], first: u8, bytes: &[u8]) -> Walk
+    ensures walks { let sought = departure_from (under rules.now tags.now) in
         Walks bytes.now
-        (λ fuel. content_walk terms (walk terms fuel) (first / 32) (first % 32)) result }
+        (λ fuel. content_walk sought (walk sought fuel) (first / 32) (first % 32)) result }
     ensures within { IsWithin (length bytes.now) result }
-    ensures memory { EndsForMemory rules result }
+    ensures memory { EndsForMemory rules.now bytes.now
+        (λ fuel. content_walk any_key (walk any_key fuel) (first / 32) (first % 32)) result }
 {
     let major = first / 32;
     let low = first % 32;
@@ -102,11 +106,12 @@ fn content(alloc: Global, rules: Rules, tags: &[u64], first: u8, bytes: &[u8]) -
 
 /// Goes past what follows a first byte of a head with its number.
 #[cycle(walk)]
-fn head(alloc: Global, rules: Rules, tags: &[u64], major: u8, low: u8, bytes: &[u8]) -> Walk
-    ensures walks { let terms = under rules tags.now in
-        Walks bytes.now (λ fuel. head_walk terms (walk terms fuel) major low) result }
+fn head(alloc: Global, rules: &Rules, tags: &[u64], major: u8, low: u8, bytes: &[u8]) -> Walk
+    ensures walks { let sought = departure_from (under rules.now tags.now) in
+        Walks bytes.now (λ fuel. head_walk sought (walk sought fuel) major low) result }
     ensures within { IsWithin (length bytes.now) result }
-    ensures memory { EndsForMemory rules result }
+    ensures memory { EndsForMemory rules.now bytes.now
+        (λ fuel. head_walk any_key (walk any_key fuel) major low) result }
 {
     match number(low, bytes) {
         Some((n, left)) => match broken_by_number(rules, tags, major, low, n) {
@@ -119,18 +124,19 @@ fn head(alloc: Global, rules: Rules, tags: &[u64], major: u8, low: u8, bytes: &[
 
 /// Goes past what follows a head with its number.
 #[cycle(walk)]
-fn inside(alloc: Global, rules: Rules, tags: &[u64], major: u8, n: u64, bytes: &[u8]) -> Walk
-    ensures walks { let terms = under rules tags.now in
-        Walks bytes.now (λ fuel. inside_walk terms (walk terms fuel) major n) result }
+fn inside(alloc: Global, rules: &Rules, tags: &[u64], major: u8, n: u64, bytes: &[u8]) -> Walk
+    ensures walks { let sought = departure_from (under rules.now tags.now) in
+        Walks bytes.now (λ fuel. inside_walk sought (walk sought fuel) major n) result }
     ensures within { IsWithin (length bytes.now) result }
-    ensures memory { EndsForMemory rules result }
+    ensures memory { EndsForMemory rules.now bytes.now
+        (λ fuel. inside_walk any_key (walk any_key fuel) major n) result }
 {
     if major <= 1 {
         Walk::Passed(bytes.len())
     } else if major <= 3 {
         past(n, bytes)
     } else if major == 4 {
-        items(alloc, rules, tags, false, n, bytes)
+        items(alloc, rules, tags, n, bytes)
     } else if major == 5 {
         pairs(alloc, rules, tags, false, n, bytes)
     } else {
@@ -138,14 +144,14 @@ fn inside(alloc: Global, rules: Rules, tags: &[u64], major: u8, n: u64, bytes: &
     }
 }
 
-/// Goes past what follows the first byte of an indefinite length. The chunks of a string are
-/// passed as items, which their encodings are.
+/// Goes past what follows the first byte of an indefinite length.
 #[cycle(walk)]
-fn indefinite(alloc: Global, rules: Rules, tags: &[u64], major: u8, bytes: &[u8]) -> Walk
-    ensures walks { let terms = under rules tags.now in
-        Walks bytes.now (λ fuel. indefinite_walk terms (walk terms fuel) major) result }
+fn indefinite(alloc: Global, rules: &Rules, tags: &[u64], major: u8, bytes: &[u8]) -> Walk
+    ensures walks { let sought = departure_from (under rules.now tags.now) in
+        Walks bytes.now (λ fuel. indefinite_walk sought (walk sought fuel) major) result }
     ensures within { IsWithin (length bytes.now) result }
-    ensures memory { EndsForMemory rules result }
+    ensures memory { EndsForMemory rules.now bytes.now
+        (λ fuel. indefinite_walk any_key (walk any_key fuel) major) result }
 {
     if rules.definite_lengths {
         return Walk::Departed(Rule::DefiniteLengths, bytes.len());
@@ -153,50 +159,80 @@ fn indefinite(alloc: Global, rules: Rules, tags: &[u64], major: u8, bytes: &[u8]
     let most = bytes.len() as u64;
     if major == 5 {
         pairs(alloc, rules, tags, true, most, bytes)
+    } else if major == 4 {
+        open_items(alloc, rules, tags, most, bytes)
     } else {
-        items(alloc, rules, tags, true, most, bytes)
+        chunks(rules, tags, major, most, bytes)
     }
 }
 
-/// Goes past n items; in an indefinite length up to a break, and past n at the most.
+/// Goes past n items.
 #[cycle(walk)]
 #[inline(never)]
-fn items(alloc: Global, rules: Rules, tags: &[u64], is_open: bool, n: u64, bytes: &[u8]) -> Walk
-    ensures walks { let terms = under rules tags.now in
-        Walks bytes.now (λ fuel. all_walk (walk terms fuel) is_open n) result }
+fn items(alloc: Global, rules: &Rules, tags: &[u64], n: u64, bytes: &[u8]) -> Walk
+    ensures walks { let sought = departure_from (under rules.now tags.now) in
+        Walks bytes.now (λ fuel. all_walk (walk sought fuel) n) result }
     ensures within { IsWithin (length bytes.now) result }
-    ensures memory { EndsForMemory rules result }
+    ensures memory { EndsForMemory rules.now bytes.now
+        (λ fuel. all_walk (walk any_key fuel) n) result }
 {
     let mut rest = bytes;
     for _i in 0..n {
-        if ends(is_open, rest) {
-            return Walk::Passed(rest.len() - 1);
-        }
         match item(alloc, rules, tags, rest) {
             Walk::Passed(left) => rest = behind(rest, left),
             other => return other,
         }
     }
-    ended(is_open, rest)
+    Walk::Passed(rest.len())
 }
 
-/// Goes past n pairs likewise, whose keys keep the rules.
+/// Goes past the items of an indefinite length up to a break, and past n at the most.
 #[cycle(walk)]
 #[inline(never)]
-fn pairs(alloc: Global, rules: Rules, tags: &[u64], is_open: bool, n: u64, bytes: &[u8]) -> Walk
-    ensures walks { let terms = under rules tags.now in
-        Walks bytes.now (λ fuel. pairs_walk terms (walk terms fuel) is_open n []) result }
+fn open_items(alloc: Global, rules: &Rules, tags: &[u64], n: u64, bytes: &[u8]) -> Walk
+    ensures walks { let sought = departure_from (under rules.now tags.now) in
+        Walks bytes.now (λ fuel. open_walk sought (walk sought fuel) n 0) result }
     ensures within { IsWithin (length bytes.now) result }
-    ensures memory { EndsForMemory rules result }
+    ensures memory { EndsForMemory rules.now bytes.now
+        (λ fuel. open_walk any_key (walk any_key fuel) n 0) result }
+{
+    let mut rest = bytes;
+    for i in 0..n {
+        if ends(true, rest) {
+            return Walk::Passed(rest.len() - 1);
+        }
+        match item(alloc, rules, tags, rest) {
+            Walk::Passed(left) => {
+                if is_reached(rules.most_items, i) {
+                    return Walk::Departed(Rule::MostItems, left);
+                }
+                rest = behind(rest, left);
+            }
+            other => return other,
+        }
+    }
+    Walk::Stopped
+}
+
+/// Goes past n pairs, whose keys keep the rules; in an indefinite length up to a break, and past n
+/// at the most.
+#[cycle(walk)]
+#[inline(never)]
+fn pairs(alloc: Global, rules: &Rules, tags: &[u64], is_open: bool, n: u64, bytes: &[u8]) -> Walk
+    ensures walks { let sought = departure_from (under rules.now tags.now) in
+        Walks bytes.now (λ fuel. pairs_walk sought (walk sought fuel) is_open n []) result }
+    ensures within { IsWithin (length bytes.now) result }
+    ensures memory { EndsForMemory rules.now bytes.now
+        (λ fuel. pairs_walk any_key (walk any_key fuel) is_open n []) result }
 {
     let mut rest = bytes;
     let mut keys = Keys::new(alloc);
-    for _i in 0..n {
+    for i in 0..n {
         if ends(is_open, rest) {
             return Walk::Passed(rest.len() - 1);
         }
         match item(alloc, rules, tags, rest) {
-            Walk::Passed(left) => match keys.pass(alloc, rules, ahead(rest, left)) {
+            Walk::Passed(left) => match keys.pass(alloc, rules, i, ahead(rest, left)) {
                 Ok(None) => rest = behind(rest, left),
                 Ok(Some(rule)) => return Walk::Departed(rule, left),
                 Err(_) => return Walk::NoMemory,
@@ -227,9 +263,8 @@ fn ends(is_open: bool, bytes: &[u8]) -> bool
 #[inline(always)]
 fn ended(is_open: bool, bytes: &[u8]) -> Walk
     ensures walks { (if is_open then stopped else passed bytes.now) ≡ walk_view bytes.now result }
-
     ensures within { IsWithin (length bytes.now) result }
-    ensures memory { (rules : Rules) → EndsForMemory rules result }
+    ensures memory { HadMemory result }
 {
     if is_open {
         Walk::Stopped
@@ -240,7 +275,7 @@ fn ended(is_open: bool, bytes: &[u8]) -> Walk
 
 /// The last so many bytes.
 #[inline(always)]
-fn behind(bytes: &[u8], left: usize) -> &[u8]
+pub(crate) fn behind(bytes: &[u8], left: usize) -> &[u8]
     requires { left ≤ length bytes.now }
     ensures { result.now ≡ last left bytes.now }
 {
@@ -260,9 +295,8 @@ fn ahead(bytes: &[u8], left: usize) -> &[u8]
 #[inline(always)]
 fn past(n: u64, bytes: &[u8]) -> Walk
     ensures walks { Walks bytes.now (λ fuel. past n) result }
-
     ensures within { IsWithin (length bytes.now) result }
-    ensures memory { (rules : Rules) → EndsForMemory rules result }
+    ensures memory { HadMemory result }
 {
     let len = bytes.len() as u64;
     if len < n {
@@ -274,11 +308,11 @@ fn past(n: u64, bytes: &[u8]) -> Walk
 
 /// Goes past what follows a first byte of major type 7.
 #[tactic(auto, using(crate::proofs::Walking::last_all), unfolding(crate::specs::Walk::simple_walk))]
-fn simple(rules: Rules, low: u8, bytes: &[u8]) -> Walk
-    ensures walks { Walks bytes.now (λ fuel. simple_walk (only rules) low) result }
-
+fn simple(rules: &Rules, low: u8, bytes: &[u8]) -> Walk
+    ensures walks { Walks bytes.now
+        (λ fuel. simple_walk (departure_from (only rules.now)) low) result }
     ensures within { IsWithin (length bytes.now) result }
-    ensures memory { EndsForMemory rules result }
+    ensures memory { HadMemory result }
 {
     match low {
         23 => undefined(rules, bytes),
@@ -291,11 +325,11 @@ fn simple(rules: Rules, low: u8, bytes: &[u8]) -> Walk
 
 /// Goes past an undefined.
 #[inline(always)]
-fn undefined(rules: Rules, bytes: &[u8]) -> Walk
-    ensures walks { seen (only rules) (simple_item undefined_item) (length bytes.now)
-        (passed bytes.now) ≡ walk_view bytes.now result }
+fn undefined(rules: &Rules, bytes: &[u8]) -> Walk
+    ensures walks { seen (departure_from (only rules.now)) (simple_item undefined_item)
+        (length bytes.now) (passed bytes.now) ≡ walk_view bytes.now result }
     ensures within { IsWithin (length bytes.now) result }
-    ensures memory { EndsForMemory rules result }
+    ensures memory { HadMemory result }
 {
     if rules.no_undefined {
         Walk::Departed(Rule::NoUndefined, bytes.len())
@@ -305,11 +339,11 @@ fn undefined(rules: Rules, bytes: &[u8]) -> Walk
 }
 
 /// Goes past the bits of a float of 16 bits, and likewise of 32 and of 64.
-fn half(rules: Rules, bytes: &[u8]) -> Walk
-    ensures walks { Walks bytes.now (λ fuel. float_walk (only rules) half 25) result }
-
+fn half(rules: &Rules, bytes: &[u8]) -> Walk
+    ensures walks { Walks bytes.now
+        (λ fuel. float_walk (departure_from (only rules.now)) half 25) result }
     ensures within { IsWithin (length bytes.now) result }
-    ensures memory { EndsForMemory rules result }
+    ensures memory { HadMemory result }
 {
     match number(25, bytes) {
         Some((bits, left)) => float(rules, Float::Half(bits as u16), left),
@@ -317,11 +351,11 @@ fn half(rules: Rules, bytes: &[u8]) -> Walk
     }
 }
 
-fn single(rules: Rules, bytes: &[u8]) -> Walk
-    ensures walks { Walks bytes.now (λ fuel. float_walk (only rules) single 26) result }
-
+fn single(rules: &Rules, bytes: &[u8]) -> Walk
+    ensures walks { Walks bytes.now
+        (λ fuel. float_walk (departure_from (only rules.now)) single 26) result }
     ensures within { IsWithin (length bytes.now) result }
-    ensures memory { EndsForMemory rules result }
+    ensures memory { HadMemory result }
 {
     match number(26, bytes) {
         Some((bits, left)) => float(rules, Float::Single(bits as u32), left),
@@ -329,11 +363,11 @@ fn single(rules: Rules, bytes: &[u8]) -> Walk
     }
 }
 
-fn double(rules: Rules, bytes: &[u8]) -> Walk
-    ensures walks { Walks bytes.now (λ fuel. float_walk (only rules) double 27) result }
-
+fn double(rules: &Rules, bytes: &[u8]) -> Walk
+    ensures walks { Walks bytes.now
+        (λ fuel. float_walk (departure_from (only rules.now)) double 27) result }
     ensures within { IsWithin (length bytes.now) result }
-    ensures memory { EndsForMemory rules result }
+    ensures memory { HadMemory result }
 {
     match number(27, bytes) {
         Some((bits, left)) => float(rules, Float::Double(bits), left),
@@ -342,8 +376,8 @@ fn double(rules: Rules, bytes: &[u8]) -> Walk
 }
 
 /// Goes past a float, which so many bytes follow.
-fn float(rules: Rules, float: Float, left: usize) -> Walk
-    ensures { IsAfter (broken (only rules) (float_feature float)) left result }
+fn float(rules: &Rules, float: Float, left: usize) -> Walk
+    ensures { IsAfter (broken (only rules.now) (float_feature float)) left result }
 {
     match broken_by_float(rules, float) {
         Some(rule) => Walk::Departed(rule, left),
@@ -354,7 +388,7 @@ fn float(rules: Rules, float: Float, left: usize) -> Walk
 /// The number after a first byte with these lower five bits, and how many bytes are after it.
 #[tactic(auto, using(crate::proofs::Walking::last_all), unfolding(cbor_model::specs::Reader::number_behind))]
 #[inline(always)]
-fn number(low: u8, bytes: &[u8]) -> Option<(u64, usize)>
+pub(crate) fn number(low: u8, bytes: &[u8]) -> Option<(u64, usize)>
     ensures { MatchOption result (StopsNumber low bytes.now) (IsNumber low bytes.now) }
 {
     match low {

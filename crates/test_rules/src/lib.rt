@@ -12,6 +12,8 @@ mod items;
 #[cfg(test)]
 mod keys;
 #[cfg(test)]
+mod limits;
+#[cfg(test)]
 mod rules;
 #[cfg(test)]
 mod tags;

@@ -42,6 +42,9 @@ fn prints_departures(rt: HostRuntime) -> Done {
         (Rule::OneNan, "NaN other than f97e00 at offset 3"),
         (Rule::NoUndefined, "undefined at offset 3"),
         (Rule::NoTags, "tag not allowed at offset 3"),
+        (Rule::MostItems, "array too long at offset 3"),
+        (Rule::MostPairs, "map too long at offset 3"),
+        (Rule::MostBytes, "string too long at offset 3"),
     ];
     for (rule, text) in rows {
         let departure = Departure { rule, offset: 3 };

@@ -1,8 +1,9 @@
-use Rattle.std.proofs.Common.{◌≡◌, ◌⊎◌, inl, true, sym, ◌∙◌}
+use Rattle.std.proofs.Common.{◌≡◌, ◌⊎◌, inl, inr, true, sym, ◌∙◌}
 use Rattle.cbor_decode_as.specs.Takes.{WhereTotal}
 use Rattle.cbor_de.specs.Whole.{from_slice_asks, from_slice_context}
 use Rattle.cbor_rules.specs.Answers.{IfUnread, IsMemory, ReportsItsDeparture}
 use Rattle.cbor_rules.specs.Rules.{is_unique, under}
+use Rattle.cbor_rules.specs.Unique.{HasPair}
 use Rattle.cbor_rules.proofs.Reading.{where_any, only_unread, match_unread, kept_none, departing, by_rules}
 use Rattle.cbor_rules.proofs.from.from_slice_with_tags.Goals as goal
 
@@ -49,4 +50,10 @@ returns-in_err-value-clause-every g c = λ v spelt.
 
 pub returns-in_err-value-clause-memory : goal.returns-in_err-value-clause-memory
 returns-in_err-value-clause-memory g c = λ x spelt.
-    only_unread (IfUnread (λ e. g.T.Readable.asks_memory from_slice_asks spelt.item ⊎ (is_unique c.args.rules.keys ≡ true))) c.from_residual.result _ c.from_residual.ensures.1 (inl (c.in_err-value.ensures.memory x spelt))
+    only_unread (IfUnread (λ e. g.T.Readable.asks_memory from_slice_asks spelt.item ⊎ ((is_unique c.args.rules.keys ≡ true) × HasPair spelt.item))) c.from_residual.result _ c.from_residual.ensures.1 (inl (c.in_err-value.ensures.memory x spelt))
+
+pub returns-in_err-departure-clause-memory : goal.returns-in_err-departure-clause-memory
+returns-in_err-departure-clause-memory g c = λ x spelt.
+    let walked = c.in_err-departure.ensures in
+    only_unread (IfUnread (λ e. g.T.Readable.asks_memory from_slice_asks spelt.item ⊎ ((is_unique c.args.rules.keys ≡ true) × HasPair spelt.item))) c.from_residual-in_err-departure.result _ c.from_residual-in_err-departure.ensures.1
+    (inr (walked.unique, walked.key spelt.item spelt.acceptable.fits spelt.spelled))

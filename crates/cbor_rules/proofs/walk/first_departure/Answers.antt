@@ -1,6 +1,7 @@
-use Rattle.std.proofs.Common.{length}
+use Rattle.std.proofs.Common.{length, rules}
 use Rattle.cbor_rules.specs.Rules.{first_departure, under}
 use Rattle.cbor_rules.specs.declared.walk.Walk.TheVariants.{Departed}
+use Rattle.cbor_rules.proofs.MetKeys.{key_of_item}
 use Rattle.cbor_rules.proofs.Told.{answered, reported, untold}
 use Rattle.cbor_rules.proofs.Walking.{had_memory}
 use Rattle.cbor_rules.proofs.walk.first_departure.Goals as goal
@@ -16,3 +17,7 @@ returns-in_default-clause-first c = λ r fits is.
     let bs = c.args.bytes.now in
     untold (length bs) bs (first_departure (under c.args.rules c.args.tags.now) r) c.item.result c.in_default.not-Departed
     (answered (under c.args.rules c.args.tags.now) bs r c.item.result fits is c.item.ensures.walks (had_memory c.item.result c.in_default.not-NoMemory))
+
+pub returns-in-NoMemory-clause-key : goal.returns-in-NoMemory-clause-key
+returns-in-NoMemory-clause-key c = λ r fits is.
+    search (rules, key_of_item c.args.bytes.now r fits is c.in-NoMemory.ensures.memory.1)

@@ -1,9 +1,10 @@
-use Rattle.std.proofs.Common.{◌≡◌, ◌⊎◌, inl, true, refl}
+use Rattle.std.proofs.Common.{◌≡◌, ◌⊎◌, inl, inr, true, refl}
 use Rattle.cbor_de.specs.Whole.{from_slice_asks, from_slice_context}
 use Rattle.cbor_rules.specs.Answers.{IfUnread, IsMemory}
 use Rattle.cbor_rules.specs.NextItem.{standing, ReportsDepartureFrom}
 use Rattle.cbor_rules.specs.Rules.{is_unique}
-use Rattle.cbor_rules.proofs.ItemsTaken.{departing, departs_so, given, not_by_rules, read_as}
+use Rattle.cbor_rules.specs.Unique.{HasPair}
+use Rattle.cbor_rules.proofs.ItemsTaken.{departing, departs_so, given, not_by_rules, of_item, read_as}
 use Rattle.cbor_rules.proofs.Reading.{only_unread, where_any}
 use Rattle.cbor_rules.proofs.items.RuledItems.next_item.Goals as goal
 
@@ -20,7 +21,7 @@ returns-in_err-value-clause-departs g c = λ x rest front.
 
 pub returns-in_err-value-clause-memory : goal.returns-in_err-value-clause-memory
 returns-in_err-value-clause-memory g c = λ x rest front.
-    only_unread (IfUnread (λ e. g.T.Readable.asks_memory from_slice_asks front.item ⊎ (is_unique c.args.self.now.rules.keys ≡ true))) c.from_residual.result _ c.from_residual.ensures.1
+    only_unread (IfUnread (λ e. g.T.Readable.asks_memory from_slice_asks front.item ⊎ ((is_unique c.args.self.now.rules.keys ≡ true) × HasPair front.item))) c.from_residual.result _ c.from_residual.ensures.1
     (inl (c.in_err-value.ensures.memory x rest front))
 
 -- ---- read, and departs
@@ -55,4 +56,16 @@ returns-in-None-clause-found g c =
 pub returns-in-None-clause-every : goal.returns-in-None-clause-every
 returns-in-None-clause-every g c = λ item rest begins.
     read_as (g.T.Readable.reads from_slice_context) (standing c.args.self.now) c.in_ok-value.value c.in_ok-value.end c.in_ok-value.ensures.found
-    _ refl c.in_ok-departure.field-0 c.in_ok-departure.ensures.first item rest begins
+    _ refl item rest begins
+
+-- ---- read, and memory runs out
+
+pub returns-in_err-departure-clause-memory : goal.returns-in_err-departure-clause-memory
+returns-in_err-departure-clause-memory g c = λ x rest front.
+    let walked = c.in_err-departure.ensures in
+    only_unread (IfUnread (λ e. g.T.Readable.asks_memory from_slice_asks front.item ⊎ ((is_unique c.args.self.now.rules.keys ≡ true) × HasPair front.item))) c.from_residual-in_err-departure.result _ c.from_residual-in_err-departure.ensures.1
+    (inr (
+      walked.unique,
+      of_item (g.T.Readable.reads from_slice_context) (standing c.args.self.now) c.in_ok-value.value c.in_ok-value.end c.in_ok-value.ensures.found
+          _ refl HasPair walked.key front.item rest front.begins,
+    ))

@@ -1,0 +1,209 @@
+//! Limits: of an array's items, a map's pairs and a string's bytes.
+
+use crate::checks::{departs, keeps};
+use cbor_rules::{Rule, Rules};
+use test_checks::Done;
+
+const TWO_ITEMS: Rules = Rules {
+    most_items: Some(2),
+    ..Rules::ANY
+};
+
+const ONE_PAIR: Rules = Rules {
+    most_pairs: Some(1),
+    ..Rules::ANY
+};
+
+const THREE_BYTES: Rules = Rules {
+    most_bytes: Some(3),
+    ..Rules::ANY
+};
+
+const NONE_AT_ALL: Rules = Rules {
+    most_items: Some(0),
+    most_pairs: Some(0),
+    most_bytes: Some(0),
+    ..Rules::ANY
+};
+
+// Too long, and the offset after what shows it.
+const LONG_ARRAYS: &[(&[u8], u64)] = &[
+    // [1, 2, 3], with its count in a byte, and without one
+    (b"\x83\x01\x02\x03", 1),
+    (b"\x98\x03\x01\x02\x03", 2),
+    (b"\x9f\x01\x02\x03\xff", 4),
+    // the third item is [1]
+    (b"\x9f\x01\x02\x81\x01\xff", 5),
+    // in an array, a map's key, its value, a tag, and an array without a length
+    (b"\x81\x83\x01\x02\x03", 2),
+    (b"\xa1\x83\0\0\0\x01", 2),
+    (b"\xa1\x01\x83\0\0\0", 3),
+    (b"\xc1\x83\0\0\0", 2),
+    (b"\x9f\x9f\0\0\0\xff\0\xff", 5),
+];
+
+const SHORT_ARRAYS: &[&[u8]] = &[
+    b"\x80",
+    b"\x82\x01\x02",
+    b"\x98\x02\x01\x02",
+    b"\x9f\xff",
+    b"\x9f\x01\x02\xff",
+    // [[1, 2], [3, 4]], and without lengths
+    b"\x82\x82\x01\x02\x82\x03\x04",
+    b"\x9f\x9f\x01\x02\xff\x9f\x03\x04\xff\xff",
+    // three pairs, three bytes, three chunks, and an integer and a tag of 3
+    b"\xa3\x01\0\x02\0\x03\0",
+    b"\x43abc",
+    b"\x5f\x41a\x41b\x41c\xff",
+    b"\xc3\x03",
+];
+
+const LONG_MAPS: &[(&[u8], u64)] = &[
+    // {1: 2, 3: 4}, with and without a count: after it, and after the second key
+    (b"\xa2\x01\x02\x03\x04", 1),
+    (b"\xb8\x02\x01\x02\x03\x04", 2),
+    (b"\xbf\x01\x02\x03\x04\xff", 4),
+    // the second key is "ab"
+    (b"\xbf\x01\x02\x62ab\x04\xff", 6),
+    // in an array, a value and a key
+    (b"\x81\xa2\x01\x02\x03\x04", 2),
+    (b"\xa1\x01\xbf\x01\x02\x03\x04\xff", 6),
+    (b"\xa1\xa2\x01\x02\x03\x04\x01", 2),
+];
+
+const SHORT_MAPS: &[&[u8]] = &[
+    b"\xa0",
+    b"\xbf\xff",
+    b"\xa1\x01\x02",
+    b"\xbf\x01\x02\xff",
+    b"\xa1\x01\xa1\x01\x02",
+    b"\x82\x01\x02",
+    b"\x42ab",
+];
+
+const LONG_STRINGS: &[(&[u8], u64)] = &[
+    (b"\x44abcd", 1),
+    (b"\x64abcd", 1),
+    (b"\x58\x04abcd", 2),
+    // "éé", of four bytes
+    (b"\x64\xc3\xa9\xc3\xa9", 1),
+    // after the head of the chunk with which they are four
+    (b"\x5f\x42ab\x42cd\xff", 5),
+    (b"\x7f\x61a\x62bc\x61d\xff", 7),
+    (b"\x7f\x61a\x64bcde\xff", 4),
+    (b"\x5f\x44abcd\xff", 2),
+    // as a key, and in an array
+    (b"\xa1\x44abcd\0", 2),
+    (b"\x82\x41a\x64abcd", 4),
+];
+
+const SHORT_STRINGS: &[&[u8]] = &[
+    b"\x40",
+    b"\x43abc",
+    b"\x63abc",
+    b"\x7f\xff",
+    b"\x5f\x42ab\x41c\xff",
+    b"\x7f\x60\x63abc\x60\xff",
+    b"\x84\x43abc\x43abc\x04\xc4\0",
+    b"\xa4\x01\0\x02\0\x03\0\x04\0",
+];
+
+#[test]
+fn refuses_long_arrays(rt: HostRuntime) -> Done {
+    for (bytes, offset) in LONG_ARRAYS {
+        departs(&rt, rt.alloc(), TWO_ITEMS, bytes, Rule::MostItems, *offset)?;
+        keeps(rt.alloc(), Rules::ANY, bytes)?;
+    }
+    for bytes in SHORT_ARRAYS {
+        keeps(rt.alloc(), TWO_ITEMS, bytes)?;
+    }
+    Ok(())
+}
+
+#[test]
+fn refuses_long_maps(rt: HostRuntime) -> Done {
+    for (bytes, offset) in LONG_MAPS {
+        departs(&rt, rt.alloc(), ONE_PAIR, bytes, Rule::MostPairs, *offset)?;
+        keeps(rt.alloc(), Rules::ANY, bytes)?;
+    }
+    for bytes in SHORT_MAPS {
+        keeps(rt.alloc(), ONE_PAIR, bytes)?;
+    }
+    Ok(())
+}
+
+#[test]
+fn refuses_long_strings(rt: HostRuntime) -> Done {
+    for (bytes, offset) in LONG_STRINGS {
+        departs(
+            &rt,
+            rt.alloc(),
+            THREE_BYTES,
+            bytes,
+            Rule::MostBytes,
+            *offset,
+        )?;
+        keeps(rt.alloc(), Rules::ANY, bytes)?;
+    }
+    for bytes in SHORT_STRINGS {
+        keeps(rt.alloc(), THREE_BYTES, bytes)?;
+    }
+    Ok(())
+}
+
+// The limit of each kind may be none at all, which the empty ones keep.
+#[test]
+fn refuses_all_but_empty_ones(rt: HostRuntime) -> Done {
+    let empty: [&[u8]; 8] = [
+        b"\x80".as_slice(),
+        b"\x9f\xff".as_slice(),
+        b"\xa0".as_slice(),
+        b"\xbf\xff".as_slice(),
+        b"\x40".as_slice(),
+        b"\x5f\xff".as_slice(),
+        b"\x7f\x60\xff".as_slice(),
+        b"\xc1\x18\x64".as_slice(),
+    ];
+    for bytes in empty {
+        keeps(rt.alloc(), NONE_AT_ALL, bytes)?;
+    }
+    let rows: [(&[u8], Rule, u64); 6] = [
+        (b"\x81\0".as_slice(), Rule::MostItems, 1),
+        (b"\x9f\0\xff".as_slice(), Rule::MostItems, 2),
+        (b"\xa1\0\0".as_slice(), Rule::MostPairs, 1),
+        (b"\xbf\0\0\xff".as_slice(), Rule::MostPairs, 2),
+        (b"\x61a".as_slice(), Rule::MostBytes, 1),
+        (b"\x5f\x41a\xff".as_slice(), Rule::MostBytes, 2),
+    ];
+    for (bytes, rule, offset) in rows {
+        departs(&rt, rt.alloc(), NONE_AT_ALL, bytes, rule, offset)?;
+    }
+    Ok(())
+}
+
+// A limit is reported before another rule that is broken at the same place.
+#[test]
+fn reports_a_limit_first(rt: HostRuntime) -> Done {
+    let rules = Rules {
+        most_items: Some(2),
+        most_pairs: Some(1),
+        ..Rules::CANONICAL
+    };
+    let array = b"\x98\x03\x01\x02\x03".as_slice();
+    departs(&rt, rt.alloc(), rules, array, Rule::MostItems, 2)?;
+    let lengths = Rule::DefiniteLengths;
+    departs(
+        &rt,
+        rt.alloc(),
+        rules,
+        b"\x9f\0\0\0\xff".as_slice(),
+        lengths,
+        1,
+    )?;
+    let unique = Rules {
+        most_pairs: Some(1),
+        ..Rules::UNIQUE_KEYS
+    };
+    let twice = b"\xbf\x01\0\x01\0\xff".as_slice();
+    departs(&rt, rt.alloc(), unique, twice, Rule::MostPairs, 4)
+}
