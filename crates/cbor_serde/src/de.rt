@@ -50,7 +50,10 @@ fn read_one<'de, T: Deserialize<'de>>(
     bytes: &'de [u8],
     format: &mut Cbor<'_>,
 ) -> Result<T> {
-    T::deserialize(alloc, &mut Deserializer::new(bytes, format))
+    match T::deserialize(alloc, &mut Deserializer::new(bytes, format)) {
+        Ok(value) => Ok(value),
+        Err(refusal) => Err(refusal.into()),
+    }
 }
 
 /// What the one item is read as whose canonical encoding the bytes are, as by [`from_slice`].

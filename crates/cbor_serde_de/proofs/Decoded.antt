@@ -1,12 +1,9 @@
 -- What a call on the decoder read.
-use Rattle.std.proofs.Common.{◌≡◌, ◌∙◌, List, ℕ, Result, Ok, Err, refl, sym, ap}
-use Rattle.std.specs.Prelude.{IfOk, String, string_bytes}
-use Rattle.std.specs.Global.{Global}
+use Rattle.std.proofs.Common.{◌≡◌, ◌∙◌, ℕ, Ok, refl, sym}
 use Rattle.cbor_model.specs.Formats.{Formats}
 use Rattle.cbor_model.specs.Raw.{Raw}
-use Rattle.cbor_model.specs.Readable.{PassesTags, IsText}
+use Rattle.cbor_model.specs.Readable.{PassesTags}
 use Rattle.cbor_model.specs.Reader.{item_at}
-use Rattle.cbor_io.specs.declared.error.Error.{Error}
 use Rattle.cbor_read.specs.Source.{Input, Lends, slice_refusals}
 use Rattle.cbor_read.specs.Sources.{input_of_slice}
 use Rattle.cbor_read.specs.declared.EitherLifetime.{EitherLifetime}
@@ -17,7 +14,6 @@ use Rattle.cbor_decode.specs.Heads.{passed}
 use Rattle.cbor_decode.specs.declared.Decoder.{Decoder}
 use Rattle.cbor_decode.proofs.facts.Readings.{value_seen}
 use Rattle.cbor_decode.proofs.facts.Steps.{passed_was, step_map}
-use Rattle.cbor_decode_as.specs.Calls.{TakesItem}
 use Rattle.cbor_decode_as.specs.Strings.{IsLentString, IsLentText, LendsString, LendsText}
 use Rattle.cbor_decode_as.specs.Takes.{IsRead, context, formats_of, raws}
 use Rattle.cbor_decode_as.specs.declared.borrowed.EitherStr.{EitherStr}
@@ -45,15 +41,6 @@ any_passed f levels s t h =
     record { item = spelt.0; is = spelt.1; means = tt }) h
 
 module _ (old : Cbor) (d : Decoder SliceRead) (settings : SameSettings old.decoder d) where
-  -- a text of its own
-  pub string_read : (result : Result (String Global) Error) → TakesItem input_of_slice slice_refusals (PassesTags (λ r (s : String Global). IsText r (string_bytes s))) old.decoder d result
-      → IfOk result (λ s. ReadsAs IsText old (string_bytes s) (record old { decoder = d }))
-  string_read (Ok s) h = record {
-    taken = made_read slice_refusals IsText (λ r (x : String Global). IsText r (string_bytes x)) (λ l. item_at (raws (formats_of old.decoder.formats) l) old.decoder.levels) (input_of old) (input_of_slice d.source) (string_bytes s) s (λ r is. is) h;
-    kept = record { around = refl; settings = settings };
-  }
-  string_read (Err e) h = tt
-
   -- what was lent
   pub text_lent : {B : Type 0} (other : Raw → B → Type 0) (l : Lends) (p : EitherStr) (y : B) → ((r : Raw) → IsLentText (context old.decoder.formats l) r p → other r y)
       → LendsText slice_refusals (context old.decoder.formats l) old.decoder.levels (input_of old) (input_of_slice d.source) (Ok p) → ReadsAs other old y (record old { decoder = d })

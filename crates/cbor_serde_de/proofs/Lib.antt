@@ -2,6 +2,7 @@ pub mod Decoded
 pub mod Ends
 pub mod Fronts
 pub mod Items
+pub mod Looks
 pub mod Named
 pub mod Numbered
 pub mod PlainNames

@@ -1,11 +1,10 @@
 -- What stands for a name.
 use Rattle.std.proofs.Common.{ℕ, List, inl}
 use Rattle.std.specs.Prelude.{Bool}
-use Rattle.std.specs.Str.{IsUtf8}
 use Rattle.cbor_model.specs.Raw.{Raw}
-use Rattle.cbor_model.specs.Readable.{IsString, IsText}
+use Rattle.cbor_model.specs.Readable.{IsText}
 use Rattle.serde.specs.declared.name.Name.{Name}
-use Rattle.cbor_serde_de.specs.Keys.{PicksBytes, PicksItem, PicksText}
+use Rattle.cbor_serde_de.specs.Keys.{PicksItem, PicksText}
 
 -- a text is picked as its bytes are
 pub text_picks : (integer_keys : Bool) (names : List Name) (key : List ℕ) (at : ℕ) → PicksText integer_keys names key at → (r : Raw) → IsText r key → PicksItem integer_keys names r at

@@ -2,6 +2,7 @@ pub mod AtHand
 pub mod Fronts
 pub mod Given
 pub mod Readers
+pub mod Refused
 pub mod Streams
 pub mod Keys
 pub mod Kinds

@@ -8,16 +8,17 @@ ghost use Rattle.cbor_model.specs.Refusal.{end_in_array, end_in_map};
 ghost use Rattle.cbor_serde_de.specs.Given.{Closes, CountsItem, CountsPair, ReadsAs, TakesKey};
 ghost use Rattle.cbor_serde_de.specs.Given.{TakesName};
 ghost use Rattle.cbor_serde_de.specs.AtHand.{BeginsText, CountsDown};
+ghost use Rattle.cbor_serde_de.specs.Refused.{Carries};
 ghost use Rattle.cbor_serde_de.specs.Places.{EndsSlice, Enters, IsAt, Leaves, Returns};
 ghost use Rattle.cbor_serde_de.specs.Places.{Starts, mark_of};
 
 use crate::kind::{kind_at, kind_within};
 use crate::places::{place_of_integer, place_of_part, place_of_plain, place_of_text};
-use cbor_decode::{Decoder, Remaining};
-use cbor_decode_as::borrowed::{read_bytes, read_text, unread_error};
+use crate::refusal::{Refusal, Step};
+use cbor_decode::{Decoder, Refused, Remaining};
+use cbor_decode_as::borrowed::{Unread, read_bytes, read_text, unread_error};
 use cbor_decode_as::collection::{more_items, more_pairs};
 use cbor_decode_as::head::tagged_head;
-use cbor_decode_as::integer::read_integer;
 use cbor_decode_as::scalar::read_unit;
 use cbor_io::error::{Error, ErrorCode, Result};
 use cbor_io::utf8::from_utf8;
@@ -35,8 +36,8 @@ pub(crate) struct Open {
 
 /// Reads the items of a slice, as a [`Format`](serde::Format) of the kit's `serde`.
 ///
-/// Its errors have the codes and the offsets of `cbor_decode_as`; what a derived type says of an
-/// item that doesn't fit it is a `Message`.
+/// Its refusals carry errors with the codes and the offsets of `cbor_decode_as`; what a derived type
+/// says of an item that doesn't fit it is a `Message`.
 #[derive(Drop)]
 pub struct Cbor<'i> {
     whole: &'i [u8],
@@ -130,17 +131,45 @@ impl<'i> Cbor<'i> {
 
     #[cold]
     #[inline(never)]
-    pub(crate) fn message(&self, message: &str) -> Error {
-        Error::message(self.decoder.alloc, message)
+    pub(crate) fn message(&self, message: &str) -> Refusal {
+        Refusal::of(
+            self.decoder.alloc,
+            Error::message(self.decoder.alloc, message),
+        )
     }
 
     #[cold]
     #[inline(never)]
-    pub(crate) fn about(&self, text: std::result::Result<String, AllocError>) -> Error {
+    pub(crate) fn about(&self, text: std::result::Result<String, AllocError>) -> Refusal {
         match text {
-            Ok(text) => Error::at(ErrorCode::Message(text), 0),
-            Err(_) => Error::at(ErrorCode::OutOfMemory, 0),
+            Ok(text) => { Refusal::of(self.decoder.alloc, Error::at(ErrorCode::Message(text), 0)) }
+            Err(_) => Refusal::OutOfMemory,
         }
+    }
+
+    /// The refusal with this error.
+    #[cold]
+    #[inline(never)]
+    pub(crate) fn refused(&self, error: Error) -> Refusal
+        ensures { Carries error result }
+    {
+        Refusal::of(self.decoder.alloc, error)
+    }
+
+    // The refusal of a step of the decoder.
+    #[cold]
+    #[inline(never)]
+    pub(crate) fn stopped(&mut self, why: Refused) -> Refusal {
+        let error = self.decoder.error(why);
+        Refusal::of(self.decoder.alloc, error)
+    }
+
+    // The refusal of a string that isn't lent.
+    #[cold]
+    #[inline(never)]
+    pub(crate) fn unread(&mut self, why: Unread, message: &str) -> Refusal {
+        let error = unread_error(&mut self.decoder, why, message);
+        Refusal::of(self.decoder.alloc, error)
     }
 
     /// The place where it stands.
@@ -168,7 +197,7 @@ impl<'i> Cbor<'i> {
 
     // The kind of the item at the front, where a look at its first byte doesn't show it.
     #[inline(never)]
-    fn kind_in_tags(&mut self) -> Result<Kind>
+    fn kind_in_tags(&mut self) -> Step<Kind>
         ensures { OnOk result (self.new ≡ self.old) }
     {
         let alloc = self.decoder.alloc;
@@ -182,22 +211,22 @@ impl<'i> Cbor<'i> {
     // Why no head of an item stands at the front within tags.
     #[cold]
     #[inline(never)]
-    fn no_kind(&mut self) -> Error {
+    fn no_kind(&mut self) -> Refusal {
         let levels = self.decoder.levels;
         let head = tagged_head(&mut self.decoder);
         self.decoder.levels = levels;
         match head {
             Ok(_) => {
                 let refused = self.decoder.refuse(ReadErrorCode::UnexpectedCode);
-                self.decoder.error(refused)
+                self.stopped(refused)
             }
-            Err(refused) => self.decoder.error(refused),
+            Err(refused) => self.stopped(refused),
         }
     }
 
     /// The kind of the item at the front, within its tags; nothing is taken.
     #[inline(always)]
-    pub(crate) fn kind(&mut self) -> Result<Kind>
+    pub(crate) fn kind(&mut self) -> Step<Kind>
         ensures { OnOk result (self.new ≡ self.old) }
     {
         match self.decoder.source.ahead().first().copied() {
@@ -211,21 +240,24 @@ impl<'i> Cbor<'i> {
 
     /// Takes a unit within tags, if one comes.
     #[inline(never)]
-    pub(crate) fn take_unit_within(&mut self) -> Result<bool>
+    pub(crate) fn take_unit_within(&mut self) -> Step<bool>
         ensures { IfOk result (λ b. MatchBool b (ReadsAs IsUnit self.old tt self.new)
             (self.new ≡ self.old)) }
     {
         let alloc = self.decoder.alloc;
         let levels = self.decoder.levels;
-        if is_other(alloc, self.decoder.source.ahead(), levels)? {
-            return Ok(false);
+        match is_other(alloc, self.decoder.source.ahead(), levels) {
+            Ok(true) => Ok(false),
+            Ok(false) => {
+                self.any_unit()?;
+                Ok(true)
+            }
+            Err(error) => Err(self.refused(error)),
         }
-        read_unit(&mut self.decoder)?;
-        Ok(true)
     }
 
     /// An array or a map has begun, outside of which so many levels are left.
-    pub(crate) fn enter(&mut self, remaining: Remaining, levels: u64) -> Result<()>
+    pub(crate) fn enter(&mut self, remaining: Remaining, levels: u64) -> Step<()>
         ensures { OnOk result (Enters self.old remaining levels self.new) }
     {
         self.outer.push(self.innermost)?;
@@ -234,7 +266,7 @@ impl<'i> Cbor<'i> {
     }
 
     /// What is innermost has ended. It refuses where nothing is open.
-    pub(crate) fn leave(&mut self) -> Result<()>
+    pub(crate) fn leave(&mut self) -> Step<()>
         ensures { OnOk result (Leaves self.old self.new) }
     {
         let Some(outer) = self.outer.pop() else {
@@ -247,7 +279,7 @@ impl<'i> Cbor<'i> {
 
     /// Whether another pair comes of the map that is innermost. At its end it is left.
     #[inline(always)]
-    pub(crate) fn more(&mut self) -> Result<bool>
+    pub(crate) fn more(&mut self) -> Step<bool>
         ensures { IfOk result (λ b. MatchBool b (CountsPair self.old self.new)
             (Closes end_in_map self.old self.new)) }
     {
@@ -257,7 +289,7 @@ impl<'i> Cbor<'i> {
                 self.leave()?;
                 Ok(false)
             }
-            Err(refused) => Err(self.decoder.error(refused)),
+            Err(refused) => Err(self.stopped(refused)),
         }
     }
 
@@ -266,9 +298,9 @@ impl<'i> Cbor<'i> {
     pub(crate) fn is_counted_down(&mut self) -> bool
         ensures { MatchBool result (CountsDown self.old self.new) (self.new ≡ self.old) }
     {
-        match self.innermost.remaining {
-            Remaining::Counted(n) if 0 < n => {
-                self.innermost.remaining = Remaining::Counted(n - 1);
+        match &mut self.innermost.remaining {
+            Remaining::Counted(n) if 0 < *n => {
+                *n -= 1;
                 true
             }
             _ => false,
@@ -277,15 +309,18 @@ impl<'i> Cbor<'i> {
 
     /// Whether another item comes of the array that is innermost. At its end it is left.
     #[inline(never)]
-    pub(crate) fn more_items(&mut self) -> Result<bool>
+    pub(crate) fn more_items(&mut self) -> Step<bool>
         ensures { IfOk result (λ b. MatchBool b (CountsItem self.old self.new)
             (Closes end_in_array self.old self.new)) }
     {
-        if more_items(&mut self.decoder, &mut self.innermost.remaining)? {
-            return Ok(true);
+        match more_items(&mut self.decoder, &mut self.innermost.remaining) {
+            Ok(true) => Ok(true),
+            Ok(false) => {
+                self.leave()?;
+                Ok(false)
+            }
+            Err(error) => Err(self.refused(error)),
         }
-        self.leave()?;
-        Ok(false)
     }
 
     /// Takes a text of up to 23 bytes that are at hand.
@@ -327,7 +362,7 @@ impl<'i> Cbor<'i> {
 
     /// The place of the next key of a map; None at its end.
     #[inline(never)]
-    pub(crate) fn any_key(&mut self, names: &[Name<'_>]) -> Result<Option<usize>>
+    pub(crate) fn any_key(&mut self, names: &[Name<'_>]) -> Step<Option<usize>>
         ensures { IfOk result (λ o. MatchOption o (Closes end_in_map self.old self.new)
             (λ at. TakesKey self.old names.now at self.new)) }
     {
@@ -341,7 +376,7 @@ impl<'i> Cbor<'i> {
 
     /// Takes a name, and finds it.
     #[inline(always)]
-    pub(crate) fn named(&mut self, names: &[Name<'_>], integer_keys: bool) -> Result<usize>
+    pub(crate) fn named(&mut self, names: &[Name<'_>], integer_keys: bool) -> Step<usize>
         ensures { IfOk result (λ at. TakesName integer_keys self.old names.now at self.new) }
     {
         match self.kind()? {
@@ -354,32 +389,32 @@ impl<'i> Cbor<'i> {
 
     // Takes a text: the name that it is.
     #[inline(always)]
-    fn text_name(&mut self, names: &[Name<'_>], integer_keys: bool) -> Result<usize>
+    fn text_name(&mut self, names: &[Name<'_>], integer_keys: bool) -> Step<usize>
         ensures { IfOk result (λ at. TakesName integer_keys self.old names.now at self.new) }
     {
         match read_text(&mut self.decoder) {
             Ok(key) => Ok(place_of_text(names, key, integer_keys)),
-            Err(why) => Err(unread_error(&mut self.decoder, why, NO_NAME)),
+            Err(why) => Err(self.unread(why, NO_NAME)),
         }
     }
 
     // Takes a byte string: the name that it is.
     #[inline(never)]
-    fn bytes_name(&mut self, names: &[Name<'_>], integer_keys: bool) -> Result<usize>
+    fn bytes_name(&mut self, names: &[Name<'_>], integer_keys: bool) -> Step<usize>
         ensures { IfOk result (λ at. TakesName integer_keys self.old names.now at self.new) }
     {
         match read_bytes(&mut self.decoder) {
             Ok(key) => Ok(place_of_part(names, key, integer_keys)),
-            Err(why) => Err(unread_error(&mut self.decoder, why, NO_NAME)),
+            Err(why) => Err(self.unread(why, NO_NAME)),
         }
     }
 
     // Takes an integer: the name that is its text, or the number of a field.
     #[inline(never)]
-    fn integer_name(&mut self, names: &[Name<'_>], integer_keys: bool) -> Result<usize>
+    fn integer_name(&mut self, names: &[Name<'_>], integer_keys: bool) -> Step<usize>
         ensures { IfOk result (λ at. TakesName integer_keys self.old names.now at self.new) }
     {
-        let number = read_integer(&mut self.decoder)?;
+        let number = self.any_integer()?;
         let place = place_of_integer(self.decoder.alloc, names, number, integer_keys)?;
         Ok(place)
     }

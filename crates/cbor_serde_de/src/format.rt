@@ -4,14 +4,13 @@ ghost use Rattle.std.specs.Prelude.{◌≡◌, IfOk, IfSome, slice_range};
 ghost use Rattle.cbor_decode_as.specs.Strings.{IsOneCharacter, text_bytes};
 
 use crate::cbor::{Cbor, Mark};
-use cbor_decode_as::borrowed::{EitherStr, read_byte_string, read_text, unread_error};
+use crate::refusal::{Refusal, Step};
+use cbor_decode_as::borrowed::{EitherStr, read_byte_string, read_text};
 use cbor_decode_as::byte_string::read_byte_string as read_own_bytes;
-use cbor_decode_as::collection::{array_head, end_array, map_head};
-use cbor_decode_as::floats::read_f64;
-use cbor_decode_as::integer::{read_from_zero, read_integer, read_signed, read_u128};
-use cbor_decode_as::scalar::{read_bool, read_unit};
-use cbor_decode_as::string::read_string;
-use cbor_io::error::{Error, ErrorCode, Result};
+use cbor_decode_as::collection::{array_at_hand, end_array, map_at_hand};
+use cbor_decode_as::integer::{from_zero_at_hand, read_u128, signed_at_hand};
+use cbor_decode_as::scalar::bool_at_hand;
+use cbor_io::error::{Error, ErrorCode};
 use cbor_read::{EitherLifetime, Offset, Source};
 use serde::{Format, Kind, Name};
 use std::alloc::Global;
@@ -63,7 +62,7 @@ fn character(text: EitherStr<'_, '_>) -> Option<char>
 impl<'i> Cbor<'i> {
     // Where the string that was just taken stands in the input.
     #[inline(always)]
-    fn lent_part(&self, input: &[u8], string: &[u8]) -> Result<(usize, usize)>
+    fn lent_part(&self, input: &[u8], string: &[u8]) -> Step<(usize, usize)>
         ensures { IfOk result (λ part. slice_range input.now part.0 part.1 ≡ string.now) }
     {
         match part_of(input, self.decoder.source.byte_offset(), string) {
@@ -77,7 +76,7 @@ impl<'i> Format for Cbor<'i> {
     ghost use Rattle.std.specs.Prelude.{OnOk};
     ghost use Rattle.cbor_serde_de.specs.Given.{Given, IsAny, Looked, Picked, ReadsAs};
 
-    type Error = Error;
+    type Error = Refusal;
 
     type Mark = Mark;
 
@@ -88,99 +87,106 @@ impl<'i> Format for Cbor<'i> {
     ghost stays = { λ old new. Looked old new };
 
     #[inline(always)]
-    fn bool(&mut self, _input: &[u8]) -> Result<bool> {
-        read_bool(&mut self.decoder)
+    fn bool(&mut self, _input: &[u8]) -> Step<bool> {
+        match bool_at_hand(&mut self.decoder) {
+            Some(value) => Ok(value),
+            None => self.any_bool(),
+        }
     }
 
     #[inline(always)]
-    fn i64(&mut self, _input: &[u8]) -> Result<i64> {
-        read_signed(
-            &mut self.decoder,
-            i64::MAX as u64,
-            "integer out of range: expected i64",
-        )
+    fn i64(&mut self, _input: &[u8]) -> Step<i64> {
+        match signed_at_hand(&mut self.decoder, i64::MAX as u64) {
+            Some(number) => Ok(number),
+            None => self.any_signed(),
+        }
     }
 
     #[inline(always)]
-    fn u64(&mut self, _input: &[u8]) -> Result<u64> {
-        read_from_zero(
-            &mut self.decoder,
-            u64::MAX,
-            "integer out of range: expected u64",
-        )
+    fn u64(&mut self, _input: &[u8]) -> Step<u64> {
+        match from_zero_at_hand(&mut self.decoder, u64::MAX) {
+            Some(number) => Ok(number),
+            None => self.any_from_zero(),
+        }
     }
 
-    fn i128(&mut self, _input: &[u8]) -> Result<i128> {
-        read_integer(&mut self.decoder)
+    fn i128(&mut self, _input: &[u8]) -> Step<i128> {
+        self.any_integer()
     }
 
-    fn u128(&mut self, _input: &[u8]) -> Result<u128> {
-        read_u128(&mut self.decoder)
+    fn u128(&mut self, _input: &[u8]) -> Step<u128> {
+        match read_u128(&mut self.decoder) {
+            Ok(number) => Ok(number),
+            Err(error) => Err(self.refused(error)),
+        }
     }
 
     // A float of any width, to the nearest, or a whole number, as in Rust.
     #[inline(always)]
-    fn f32(&mut self, input: &[u8]) -> Result<f32> {
+    fn f32(&mut self, input: &[u8]) -> Step<f32> {
         match self.kind()? {
             Kind::Unsigned => Ok(nearest_u64_to_f32(self.u64(input)?)),
             Kind::Signed => Ok(nearest_i64_to_f32(self.i64(input)?)),
-            _ => Ok(nearest_f64_to_f32_with_nan(read_f64(&mut self.decoder)?)),
+            _ => Ok(nearest_f64_to_f32_with_nan(self.any_float()?)),
         }
     }
 
     #[inline(always)]
-    fn f64(&mut self, input: &[u8]) -> Result<f64> {
+    fn f64(&mut self, input: &[u8]) -> Step<f64> {
         match self.kind()? {
             Kind::Unsigned => Ok(nearest_u64_to_f64(self.u64(input)?)),
             Kind::Signed => Ok(nearest_i64_to_f64(self.i64(input)?)),
-            _ => read_f64(&mut self.decoder),
+            _ => self.any_float(),
         }
     }
 
-    fn char(&mut self, _input: &[u8]) -> Result<char> {
+    fn char(&mut self, _input: &[u8]) -> Step<char> {
         let alloc = self.decoder.alloc;
         match read_text(&mut self.decoder) {
             Ok(text) => match character(text) {
                 Some(c) => Ok(c),
-                None => Err(Error::message(alloc, NO_CHARACTER)),
+                None => Err(Refusal::of(alloc, Error::message(alloc, NO_CHARACTER))),
             },
-            Err(why) => Err(unread_error(&mut self.decoder, why, NO_CHARACTER)),
+            Err(why) => Err(self.unread(why, NO_CHARACTER)),
         }
     }
 
     // What is in chunks isn't lent by the input.
     #[inline(always)]
-    fn plain_str(&mut self, input: &[u8]) -> Result<(usize, usize)> {
+    fn plain_str(&mut self, input: &[u8]) -> Step<(usize, usize)> {
         match read_text(&mut self.decoder) {
             Ok(EitherStr::Long(text)) => self.lent_part(input, text.as_bytes()),
             Ok(EitherStr::Short(_)) => Err(self.message(NOT_LENT)),
-            Err(why) => Err(unread_error(&mut self.decoder, why, NOT_LENT)),
+            Err(why) => Err(self.unread(why, NOT_LENT)),
         }
     }
 
-    fn plain_bytes(&mut self, input: &[u8]) -> Result<(usize, usize)> {
+    fn plain_bytes(&mut self, input: &[u8]) -> Step<(usize, usize)> {
         match read_byte_string(&mut self.decoder) {
             Ok(EitherLifetime::Long(bytes)) => self.lent_part(input, bytes),
             Ok(EitherLifetime::Short(_)) => Err(self.message(NOT_LENT)),
-            Err(why) => Err(unread_error(&mut self.decoder, why, NOT_LENT)),
+            Err(why) => Err(self.unread(why, NOT_LENT)),
         }
     }
 
     #[inline(always)]
-    fn string(&mut self, _alloc: Global, _input: &[u8]) -> Result<String> {
+    fn string(&mut self, _alloc: Global, _input: &[u8]) -> Step<String> {
         match self.text_at_hand()? {
             Some(text) => Ok(text),
-            None => read_string(&mut self.decoder),
+            None => self.any_string(),
         }
     }
 
-    fn byte_buf(&mut self, _alloc: Global, _input: &[u8]) -> Result<Vec<u8>> {
-        read_own_bytes(&mut self.decoder)
+    fn byte_buf(&mut self, _alloc: Global, _input: &[u8]) -> Step<Vec<u8>> {
+        match read_own_bytes(&mut self.decoder) {
+            Ok(bytes) => Ok(bytes),
+            Err(error) => Err(self.refused(error)),
+        }
     }
 
     // Where names may be integers, an integer may be the name of a variant, as a text is.
     #[inline(always)]
-    fn peek(&mut self, _input: &[u8]) -> Result<Kind> {
+    fn peek(&mut self, _input: &[u8]) -> Step<Kind> {
         match self.kind()? {
             Kind::Unsigned | Kind::Signed if self.options.integer_keys => Ok(Kind::Str),
             kind => Ok(kind),
@@ -188,10 +194,10 @@ impl<'i> Format for Cbor<'i> {
     }
 
     #[inline(always)]
-    fn take_unit(&mut self, _input: &[u8]) -> Result<bool> {
+    fn take_unit(&mut self, _input: &[u8]) -> Step<bool> {
         match self.decoder.source.ahead().first().copied() {
             Some(0xf6 | 0xf7) | None => {
-                read_unit(&mut self.decoder)?;
+                self.any_unit()?;
                 Ok(true)
             }
             Some(0xc0..=0xdb) => self.take_unit_within(),
@@ -201,10 +207,10 @@ impl<'i> Format for Cbor<'i> {
 
     // Null alone, as in Rust: what undefined is, the value's type says.
     #[inline(always)]
-    fn take_none(&mut self, _input: &[u8]) -> Result<bool> {
+    fn take_none(&mut self, _input: &[u8]) -> Step<bool> {
         match self.decoder.source.ahead().first().copied() {
             Some(0xf6) => {
-                read_unit(&mut self.decoder)?;
+                self.any_unit()?;
                 Ok(true)
             }
             _ => Ok(false),
@@ -212,14 +218,16 @@ impl<'i> Format for Cbor<'i> {
     }
 
     #[inline(always)]
-    fn begin_seq(&mut self, _input: &[u8]) -> Result<()> {
+    fn begin_seq(&mut self, _input: &[u8]) -> Step<()> {
         let levels = self.decoder.levels;
-        let remaining = array_head(&mut self.decoder)?;
-        self.enter(remaining, levels)
+        match array_at_hand(&mut self.decoder) {
+            Some(remaining) => self.enter(remaining, levels),
+            None => self.any_array(),
+        }
     }
 
     #[inline(always)]
-    fn next_item(&mut self, _input: &[u8]) -> Result<bool> {
+    fn next_item(&mut self, _input: &[u8]) -> Step<bool> {
         if self.is_counted_down() {
             return Ok(true);
         }
@@ -227,56 +235,58 @@ impl<'i> Format for Cbor<'i> {
     }
 
     // Items that are left of a tuple are `TrailingData`, as for a described type.
-    fn end_tuple(&mut self, _input: &[u8]) -> Result<()> {
-        end_array(&mut self.decoder, self.innermost.remaining)?;
-        self.leave()
-    }
-
-    #[inline(always)]
-    fn begin_map(&mut self, _input: &[u8]) -> Result<()> {
-        let levels = self.decoder.levels;
-        let remaining = map_head(&mut self.decoder)?;
-        self.enter(remaining, levels)
-    }
-
-    // A struct is a map, or an array of its fields.
-    #[inline(always)]
-    fn begin_struct(&mut self, input: &[u8]) -> Result<bool> {
-        match self.kind()? {
-            Kind::Seq => {
-                self.begin_seq(input)?;
-                Ok(true)
-            }
-            _ => {
-                self.begin_map(input)?;
-                Ok(false)
-            }
+    fn end_tuple(&mut self, _input: &[u8]) -> Step<()> {
+        match end_array(&mut self.decoder, self.innermost.remaining) {
+            Ok(()) => self.leave(),
+            Err(error) => Err(self.refused(error)),
         }
     }
 
     #[inline(always)]
-    fn next_key(&mut self, _input: &[u8], names: &[Name<'_>]) -> Result<Option<usize>> {
+    fn begin_map(&mut self, _input: &[u8]) -> Step<()> {
+        let levels = self.decoder.levels;
+        match map_at_hand(&mut self.decoder) {
+            Some(remaining) => self.enter(remaining, levels),
+            None => self.any_map(),
+        }
+    }
+
+    // A struct is a map, or an array of its fields.
+    #[inline(always)]
+    fn begin_struct(&mut self, _input: &[u8]) -> Step<bool> {
+        let levels = self.decoder.levels;
+        match map_at_hand(&mut self.decoder) {
+            Some(remaining) => {
+                self.enter(remaining, levels)?;
+                Ok(false)
+            }
+            None => self.any_struct(),
+        }
+    }
+
+    #[inline(always)]
+    fn next_key(&mut self, _input: &[u8], names: &[Name<'_>]) -> Step<Option<usize>> {
         match self.key_at_hand(names) {
             Some(place) => Ok(Some(place)),
             None => self.any_key(names),
         }
     }
 
-    fn next_entry(&mut self, _input: &[u8]) -> Result<bool> {
+    fn next_entry(&mut self, _input: &[u8]) -> Step<bool> {
         self.more()
     }
 
-    fn variant(&mut self, _input: &[u8], names: &[Name<'_>]) -> Result<usize> {
+    fn variant(&mut self, _input: &[u8], names: &[Name<'_>]) -> Step<usize> {
         self.named(names, self.options.integer_keys)
     }
 
     #[inline(always)]
-    fn skip(&mut self, _input: &[u8]) -> Result<()>
+    fn skip(&mut self, _input: &[u8]) -> Step<()>
         ensures { OnOk result (ReadsAs IsAny self.old tt self.new) }
     {
         match self.decoder.skip() {
             Ok(()) => Ok(()),
-            Err(refused) => Err(self.decoder.error(refused)),
+            Err(refused) => Err(self.stopped(refused)),
         }
     }
 
@@ -291,42 +301,45 @@ impl<'i> Format for Cbor<'i> {
     fn release(&mut self, _mark: Mark) {}
 
     // A message is of what doesn't fit, and items that are left of a tuple too.
-    fn is_fatal(&self, error: &Error) -> bool {
-        !matches!(
-            error.code(),
-            ErrorCode::Message(_) | ErrorCode::TrailingData
-        )
+    fn is_fatal(&self, refusal: &Refusal) -> bool {
+        match refusal {
+            Refusal::OutOfMemory => true,
+            Refusal::Error(error) => !matches!(
+                error.code(),
+                ErrorCode::Message(_) | ErrorCode::TrailingData
+            ),
+        }
     }
 
-    fn missing(&self, name: &str) -> Error {
+    fn missing(&self, name: &str) -> Refusal {
         self.about(format!(in self.decoder.alloc; "missing field `{name}`"))
     }
 
-    fn duplicate(&self, name: &str) -> Error {
+    fn duplicate(&self, name: &str) -> Refusal {
         self.about(format!(in self.decoder.alloc; "duplicate field `{name}`"))
     }
 
-    fn unknown_key(&self) -> Error {
+    fn unknown_key(&self) -> Refusal {
         self.message("unknown field")
     }
 
-    fn unknown_variant(&self) -> Error {
+    fn unknown_variant(&self) -> Refusal {
         self.message("unknown variant")
     }
 
-    fn wrong_len(&self) -> Error {
+    fn wrong_len(&self) -> Refusal {
         self.message("invalid length")
     }
 
-    fn invalid(&self) -> Error {
+    fn invalid(&self) -> Refusal {
         self.message("invalid value")
     }
 
-    fn no_memory(&self) -> Error {
-        Error::at(ErrorCode::OutOfMemory, 0)
+    fn no_memory(&self) -> Refusal {
+        Refusal::OutOfMemory
     }
 
-    fn custom(&self, message: &str) -> Error {
+    fn custom(&self, message: &str) -> Refusal {
         self.message(message)
     }
 }

@@ -63,7 +63,10 @@ fn read_owned<T: DeserializeOwned>(
     bytes: &[u8],
     format: &mut Cbor<'_>,
 ) -> Result<T> {
-    T::deserialize_owned(alloc, &mut Deserializer::new(bytes, format))
+    match T::deserialize_owned(alloc, &mut Deserializer::new(bytes, format)) {
+        Ok(value) => Ok(value),
+        Err(refusal) => Err(refusal.into()),
+    }
 }
 
 // What a type says of an item, before the other error.

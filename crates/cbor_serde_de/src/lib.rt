@@ -4,6 +4,7 @@
 //! a reader gives: `specs/Fronts.antt` and `specs/Streams.antt` say what is taken, and why not.
 #![tactic(auto)]
 
+mod any;
 mod cbor;
 mod format;
 mod from;
@@ -11,8 +12,10 @@ mod kept;
 mod kind;
 mod outline;
 mod places;
+mod refusal;
 mod stream;
 
 pub use cbor::{Cbor, Mark};
 pub use from::{from_bytes, from_reader, from_reader_with};
+pub use refusal::Refusal;
 pub use stream::Stream;

@@ -6,3 +6,4 @@ pub mod Logged
 pub mod Noted
 pub mod Follows
 pub mod Refused
+pub mod Reasons

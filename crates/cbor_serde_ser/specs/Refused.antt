@@ -8,7 +8,7 @@ use Rattle.cbor_serde_ser.specs.declared.refusal.Refusal.TheVariants.{OutOfMemor
 abbrev pub code_of_refusal : Refusal → ErrorCode
 code_of_refusal OutOfMemory = error.OutOfMemory
 code_of_refusal (TooDeep n) = error.RecursionLimitExceeded
-code_of_refusal (Message text) = error.Message text
+code_of_refusal (Message text) = error.Message text.value
 
 -- where it is refused in what was written
 abbrev pub offset_of_refusal : Refusal → ℕ

@@ -1,16 +1,19 @@
 //! What an item is written as.
 
-ghost use Rattle.std.specs.Prelude.{◌≡◌, ◌++◌, OnOk, true};
+ghost use Rattle.std.specs.Prelude.{◌≡◌, ◌++◌, IfErr, OnOk, true};
 ghost use Rattle.cbor_model.specs.Head.{short};
 ghost use Rattle.cbor_io.specs.Head.{major_number};
-ghost use Rattle.cbor_serde_ser.specs.Document.{string, name_bytes, is_bytes, is_text, Stored};
+ghost use Rattle.cbor_serde_ser.specs.Document.{string, name_bytes, is_bytes, is_text};
+ghost use Rattle.cbor_serde_ser.specs.Document.{stored, Stored};
 ghost use Rattle.cbor_serde_ser.specs.Encoded.{encoded_bytes};
+ghost use Rattle.cbor_serde_ser.specs.State.{MayNot};
+ghost use Rattle.cbor_serde_ser.specs.declared.reason.Reason.TheVariants.{OutOfMemory};
 
 use crate::float::Encoded;
-use crate::refusal::{Refusal, Result};
+use crate::reason::{Reason, Step};
 use cbor_io::head::Major;
 use cbor_serde_options::number_of;
-use std::alloc::{AllocError, Global};
+use std::alloc::AllocError;
 
 /// What a step that only allocates returns.
 pub(crate) type Done = std::result::Result<(), AllocError>;
@@ -85,8 +88,9 @@ pub(crate) fn put_text(out: &mut Vec<u8>, text: &str) -> Done
 }
 
 /// Appends a whole number that CBOR stores, or refuses another.
-pub(crate) fn put_integer(alloc: Global, out: &mut Vec<u8>, v: i128) -> Result<()>
-    ensures { OnOk result (Stored v out.old.items out.new.items) }
+pub(crate) fn put_integer(out: &mut Vec<u8>, v: i128) -> Step<()>
+    ensures appended { OnOk result (Stored v out.old.items out.new.items) }
+    ensures refused { IfErr result (MayNot (stored v)) }
 {
     if let Ok(n) = u64::try_from(v) {
         put_head(out, Major::UnsignedInteger, n)?;
@@ -96,7 +100,7 @@ pub(crate) fn put_integer(alloc: Global, out: &mut Vec<u8>, v: i128) -> Result<(
         put_head(out, Major::NegativeInteger, n)?;
         return Ok(());
     }
-    Err(Refusal::message(alloc, "The number can't be stored in CBOR"))
+    Err(Reason::NotStored)
 }
 
 /// Appends a float.
@@ -121,13 +125,14 @@ pub(crate) fn put_float(out: &mut Vec<u8>, v: Encoded) -> Done
 
 /// Appends a name, or the integer that it is where that is asked for.
 #[inline(always)]
-pub(crate) fn put_name(alloc: Global, out: &mut Vec<u8>, name: &str, as_integer: bool) -> Result<()>
+pub(crate) fn put_name(out: &mut Vec<u8>, name: &str, as_integer: bool) -> Step<()>
     ensures content { is_text name.now ≡ true }
     ensures appended { OnOk result
         (out.new.items ≡ out.old.items ++ name_bytes as_integer name.now) }
+    ensures refused { IfErr result (λ why. why ≡ OutOfMemory) }
 {
     if as_integer {
-        return put_key(alloc, out, name);
+        return put_key(out, name);
     }
     put_text(out, name)?;
     Ok(())
@@ -135,13 +140,14 @@ pub(crate) fn put_name(alloc: Global, out: &mut Vec<u8>, name: &str, as_integer:
 
 // Appends the integer that a name is, or the name where it is none.
 #[inline(never)]
-fn put_key(alloc: Global, out: &mut Vec<u8>, name: &str) -> Result<()>
+fn put_key(out: &mut Vec<u8>, name: &str) -> Step<()>
     ensures content { is_text name.now ≡ true }
     ensures appended { OnOk result (out.new.items ≡ out.old.items ++ name_bytes true name.now) }
+    ensures refused { IfErr result (λ why. why ≡ OutOfMemory) }
 {
     holds_text(name);
     match number_of(name) {
-        Some(number) => put_integer(alloc, out, number),
+        Some(number) => put_integer(out, number),
         None => {
             put_text(out, name)?;
             Ok(())

@@ -1,18 +1,18 @@
 //! The arrays and maps that are open while events are written.
 
 ghost use Rattle.std.specs.Prelude.{◌≡◌, ◌↔◌, Some, None, true, false, IsTrue, MatchBool};
-ghost use Rattle.cbor_serde_ser.specs.Document.{after_item, fields, is_full, opened};
+ghost use Rattle.cbor_serde_ser.specs.Document.{after_item, is_full, opened};
 
 /// An array, a map or the document itself, and what is due in it.
 #[derive(Clone, Copy)]
 pub(crate) struct Level {
     // How many items or pairs are still to come, where the count was declared.
     pub(crate) left: Option<u64>,
+    // How many open maps stand within it whose members are its own.
+    pub(crate) flat: u64,
     pub(crate) is_map: bool,
     // Whether the value of a pair is due.
     pub(crate) at_value: bool,
-    // How many open maps stand within it whose members are its own.
-    pub(crate) flat: u64,
     // Whether its items are a struct's fields, whose names aren't written.
     pub(crate) drops_names: bool,
 }
@@ -38,16 +38,6 @@ impl Level {
         }
     }
 
-    /// The array of a struct's fields that begins.
-    pub(crate) fn fields(left: Option<u64>) -> Level
-        ensures { result ≡ fields left }
-    {
-        Level {
-            drops_names: true,
-            ..Level::open(left, false)
-        }
-    }
-
     /// Counts an item. It answers false, and changes nothing, where none is due.
     #[inline(always)]
     pub(crate) fn count_item(&mut self) -> bool
@@ -58,12 +48,15 @@ impl Level {
             self.at_value = false;
             return true;
         }
-        match self.left {
-            Some(0) => return false,
-            Some(n) => self.left = Some(n - 1),
-            None => {}
+        if let Some(left) = &mut self.left {
+            if *left == 0 {
+                return false;
+            }
+            *left -= 1;
         }
-        self.at_value = self.is_map;
+        if self.is_map {
+            self.at_value = true;
+        }
         true
     }
 

@@ -10,6 +10,7 @@ mod float;
 mod level;
 mod log;
 mod logged;
+mod reason;
 mod refusal;
 mod writer;
 

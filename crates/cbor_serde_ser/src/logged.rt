@@ -1,6 +1,7 @@
 //! A `Writer` that keeps the events which it was sent, for proofs.
 
 ghost use Rattle.std.specs.Prelude.{◌≡◌, [], Some, None, true, false, is_some, IfOk, IfSome};
+ghost use Rattle.std.specs.Prelude.{MatchResult};
 ghost use Rattle.cbor_serde_options.specs.declared.options.Options.{Options};
 ghost use Rattle.serde.specs.Event.{Logs};
 ghost use Rattle.cbor_serde_ser.specs.Follows.{Follows};
@@ -9,6 +10,7 @@ ghost use Rattle.cbor_serde_ser.specs.Document.{State, step, AreBytesOf, IsItem}
 ghost use Rattle.cbor_serde_ser.specs.State.{state};
 
 use crate::log::{Log, Note};
+use crate::reason::{Reason, Step};
 use crate::refusal::Refusal;
 use crate::writer::Writer;
 use cbor_serde_options::Options;
@@ -48,11 +50,26 @@ impl Logged {
             refused,
             ..
         } = self;
-        if refused {
-            return Err(writer.refuse("a step was refused"));
+        if let Err(reason) = unless_refused(refused) {
+            return Err(writer.refusal(reason));
         }
-        writer.finish(options)
+        let alloc = writer.alloc;
+        let written = writer.out.len() as u64;
+        match writer.finish(options) {
+            Ok(bytes) => Ok(bytes),
+            Err(reason) => Err(Refusal::of(alloc, reason, written)),
+        }
     }
+}
+
+// After a step that was refused there is no document.
+fn unless_refused(refused: bool) -> Step<()>
+    ensures { MatchResult result (λ _. refused ≡ false) (λ _. refused ≡ true) }
+{
+    if refused {
+        return Err(Reason::RefusedBefore);
+    }
+    Ok(())
 }
 
 impl Serializer for Logged {
@@ -62,10 +79,10 @@ impl Serializer for Logged {
 
     #[inline(always)]
     fn bool(&mut self, v: bool) -> Result<(), Refusal> {
-        if let Err(error) = self.writer.bool(v) {
+        if let Err(reason) = self.writer.bool(v) {
             self.refused = true;
             self.log = after(&self.log, Note::Lost);
-            return Err(error);
+            return Err(self.writer.refusal(reason));
         }
         self.log = after(&self.log, Note::Bool(v));
         Ok(())
@@ -73,10 +90,10 @@ impl Serializer for Logged {
 
     #[inline(always)]
     fn i64(&mut self, v: i64) -> Result<(), Refusal> {
-        if let Err(error) = self.writer.i64(v) {
+        if let Err(reason) = self.writer.i64(v) {
             self.refused = true;
             self.log = after(&self.log, Note::Lost);
-            return Err(error);
+            return Err(self.writer.refusal(reason));
         }
         self.log = after(&self.log, Note::I64(v));
         Ok(())
@@ -84,10 +101,10 @@ impl Serializer for Logged {
 
     #[inline(always)]
     fn u64(&mut self, v: u64) -> Result<(), Refusal> {
-        if let Err(error) = self.writer.u64(v) {
+        if let Err(reason) = self.writer.u64(v) {
             self.refused = true;
             self.log = after(&self.log, Note::Lost);
-            return Err(error);
+            return Err(self.writer.refusal(reason));
         }
         self.log = after(&self.log, Note::U64(v));
         Ok(())
@@ -95,10 +112,10 @@ impl Serializer for Logged {
 
     #[inline(always)]
     fn i128(&mut self, v: i128) -> Result<(), Refusal> {
-        if let Err(error) = self.writer.i128(v) {
+        if let Err(reason) = self.writer.i128(v) {
             self.refused = true;
             self.log = after(&self.log, Note::Lost);
-            return Err(error);
+            return Err(self.writer.refusal(reason));
         }
         self.log = after(&self.log, Note::I128(v));
         Ok(())
@@ -106,10 +123,10 @@ impl Serializer for Logged {
 
     #[inline(always)]
     fn u128(&mut self, v: u128) -> Result<(), Refusal> {
-        if let Err(error) = self.writer.u128(v) {
+        if let Err(reason) = self.writer.u128(v) {
             self.refused = true;
             self.log = after(&self.log, Note::Lost);
-            return Err(error);
+            return Err(self.writer.refusal(reason));
         }
         self.log = after(&self.log, Note::U128(v));
         Ok(())
@@ -117,10 +134,10 @@ impl Serializer for Logged {
 
     #[inline(always)]
     fn f32(&mut self, v: f32) -> Result<(), Refusal> {
-        if let Err(error) = self.writer.f32(v) {
+        if let Err(reason) = self.writer.f32(v) {
             self.refused = true;
             self.log = after(&self.log, Note::Lost);
-            return Err(error);
+            return Err(self.writer.refusal(reason));
         }
         self.log = after(&self.log, Note::Single(v));
         Ok(())
@@ -128,10 +145,10 @@ impl Serializer for Logged {
 
     #[inline(always)]
     fn f64(&mut self, v: f64) -> Result<(), Refusal> {
-        if let Err(error) = self.writer.f64(v) {
+        if let Err(reason) = self.writer.f64(v) {
             self.refused = true;
             self.log = after(&self.log, Note::Lost);
-            return Err(error);
+            return Err(self.writer.refusal(reason));
         }
         self.log = after(&self.log, Note::Double(v));
         Ok(())
@@ -139,10 +156,10 @@ impl Serializer for Logged {
 
     #[inline(always)]
     fn char(&mut self, v: char) -> Result<(), Refusal> {
-        if let Err(error) = self.writer.char(v) {
+        if let Err(reason) = self.writer.char(v) {
             self.refused = true;
             self.log = after(&self.log, Note::Lost);
-            return Err(error);
+            return Err(self.writer.refusal(reason));
         }
         self.log = after(&self.log, Note::Char(v));
         Ok(())
@@ -150,10 +167,10 @@ impl Serializer for Logged {
 
     #[inline(always)]
     fn str(&mut self, v: &str) -> Result<(), Refusal> {
-        if let Err(error) = self.writer.str(v) {
+        if let Err(reason) = self.writer.str(v) {
             self.refused = true;
             self.log = after(&self.log, Note::Lost);
-            return Err(error);
+            return Err(self.writer.refusal(reason));
         }
         self.log = after(&self.log, Note::Text(v));
         Ok(())
@@ -161,10 +178,10 @@ impl Serializer for Logged {
 
     #[inline(always)]
     fn bytes(&mut self, v: &[u8]) -> Result<(), Refusal> {
-        if let Err(error) = self.writer.bytes(v) {
+        if let Err(reason) = self.writer.bytes(v) {
             self.refused = true;
             self.log = after(&self.log, Note::Lost);
-            return Err(error);
+            return Err(self.writer.refusal(reason));
         }
         self.log = after(&self.log, Note::Bytes(v));
         Ok(())
@@ -172,10 +189,10 @@ impl Serializer for Logged {
 
     #[inline(always)]
     fn unit(&mut self) -> Result<(), Refusal> {
-        if let Err(error) = self.writer.unit() {
+        if let Err(reason) = self.writer.unit() {
             self.refused = true;
             self.log = after(&self.log, Note::Lost);
-            return Err(error);
+            return Err(self.writer.refusal(reason));
         }
         self.log = after(&self.log, Note::Unit);
         Ok(())
@@ -183,10 +200,10 @@ impl Serializer for Logged {
 
     #[inline(always)]
     fn str_cased(&mut self, name: &str, case: Case) -> Result<(), Refusal> {
-        if let Err(error) = self.writer.str_cased(name, case) {
+        if let Err(reason) = self.writer.str_cased(name, case) {
             self.refused = true;
             self.log = after(&self.log, Note::Lost);
-            return Err(error);
+            return Err(self.writer.refusal(reason));
         }
         self.log = after(&self.log, Note::UnitVariant(name, case));
         Ok(())
@@ -194,10 +211,10 @@ impl Serializer for Logged {
 
     #[inline(always)]
     fn begin_seq(&mut self, len: Option<usize>) -> Result<(), Refusal> {
-        if let Err(error) = self.writer.begin_seq(len) {
+        if let Err(reason) = self.writer.begin_seq(len) {
             self.refused = true;
             self.log = after(&self.log, Note::Lost);
-            return Err(error);
+            return Err(self.writer.refusal(reason));
         }
         self.log = after(&self.log, Note::BeginSeq(len));
         Ok(())
@@ -205,10 +222,10 @@ impl Serializer for Logged {
 
     #[inline(always)]
     fn end_seq(&mut self) -> Result<(), Refusal> {
-        if let Err(error) = self.writer.end_seq() {
+        if let Err(reason) = self.writer.end_seq() {
             self.refused = true;
             self.log = after(&self.log, Note::Lost);
-            return Err(error);
+            return Err(self.writer.refusal(reason));
         }
         self.log = after(&self.log, Note::EndSeq);
         Ok(())
@@ -216,10 +233,10 @@ impl Serializer for Logged {
 
     #[inline(always)]
     fn begin_map(&mut self, len: Option<usize>) -> Result<(), Refusal> {
-        if let Err(error) = self.writer.begin_map(len) {
+        if let Err(reason) = self.writer.begin_map(len) {
             self.refused = true;
             self.log = after(&self.log, Note::Lost);
-            return Err(error);
+            return Err(self.writer.refusal(reason));
         }
         self.log = after(&self.log, Note::BeginMap(len));
         Ok(())
@@ -227,10 +244,10 @@ impl Serializer for Logged {
 
     #[inline(always)]
     fn end_map(&mut self) -> Result<(), Refusal> {
-        if let Err(error) = self.writer.end_map() {
+        if let Err(reason) = self.writer.end_map() {
             self.refused = true;
             self.log = after(&self.log, Note::Lost);
-            return Err(error);
+            return Err(self.writer.refusal(reason));
         }
         self.log = after(&self.log, Note::EndMap);
         Ok(())
@@ -238,10 +255,10 @@ impl Serializer for Logged {
 
     #[inline(always)]
     fn key_cased(&mut self, name: &str, case: Case) -> Result<(), Refusal> {
-        if let Err(error) = self.writer.key_cased(name, case) {
+        if let Err(reason) = self.writer.key_cased(name, case) {
             self.refused = true;
             self.log = after(&self.log, Note::Lost);
-            return Err(error);
+            return Err(self.writer.refusal(reason));
         }
         self.log = after(&self.log, Note::FieldKey(name, case));
         Ok(())
@@ -249,10 +266,10 @@ impl Serializer for Logged {
 
     #[inline(always)]
     fn variant_key(&mut self, name: &str, case: Case) -> Result<(), Refusal> {
-        if let Err(error) = self.writer.variant_key(name, case) {
+        if let Err(reason) = self.writer.variant_key(name, case) {
             self.refused = true;
             self.log = after(&self.log, Note::Lost);
-            return Err(error);
+            return Err(self.writer.refusal(reason));
         }
         self.log = after(&self.log, Note::VariantKey(name, case));
         Ok(())
@@ -260,10 +277,10 @@ impl Serializer for Logged {
 
     #[inline(always)]
     fn begin_key(&mut self) -> Result<(), Refusal> {
-        if let Err(error) = self.writer.begin_key() {
+        if let Err(reason) = self.writer.begin_key() {
             self.refused = true;
             self.log = after(&self.log, Note::Lost);
-            return Err(error);
+            return Err(self.writer.refusal(reason));
         }
         self.log = after(&self.log, Note::BeginKey);
         Ok(())
@@ -271,10 +288,10 @@ impl Serializer for Logged {
 
     #[inline(always)]
     fn end_key(&mut self) -> Result<(), Refusal> {
-        if let Err(error) = self.writer.end_key() {
+        if let Err(reason) = self.writer.end_key() {
             self.refused = true;
             self.log = after(&self.log, Note::Lost);
-            return Err(error);
+            return Err(self.writer.refusal(reason));
         }
         self.log = after(&self.log, Note::EndKey);
         Ok(())
@@ -282,27 +299,27 @@ impl Serializer for Logged {
 
     #[inline(always)]
     fn flatten_next(&mut self) -> Result<(), Refusal> {
-        if let Err(error) = self.writer.flatten_next() {
+        if let Err(reason) = self.writer.flatten_next() {
             self.refused = true;
             self.log = after(&self.log, Note::Lost);
-            return Err(error);
+            return Err(self.writer.refusal(reason));
         }
         self.log = after(&self.log, Note::Flatten);
         Ok(())
     }
 
     fn collect_str<T: std::fmt::Display>(&mut self, value: &T) -> Result<(), Refusal> {
-        if let Err(error) = self.writer.collect_str(value) {
+        if let Err(reason) = self.writer.collect_str(value) {
             self.refused = true;
             self.log = after(&self.log, Note::Lost);
-            return Err(error);
+            return Err(self.writer.refusal(reason));
         }
         self.log = after(&self.log, Note::Text(self.writer.room.as_str()));
         Ok(())
     }
 
     fn custom(&self, message: &str) -> Refusal {
-        self.writer.custom(message)
+        Refusal::message(self.writer.alloc, message)
     }
 }
 

@@ -1,7 +1,10 @@
 //! Why a step writes nothing more.
 
+ghost use Rattle.cbor_serde_ser.specs.Reasons.{IsMessage, IsRefusalFor};
+
+use crate::reason::Reason;
 use cbor_io::error::{Error, ErrorCode};
-use std::alloc::{AllocError, AllocFailed, Global};
+use std::alloc::Global;
 
 /// Why a step of a [`Logged`](crate::Logged) is refused. It is smaller than an [`Error`], as the
 /// result of a step is moved at each call.
@@ -12,41 +15,34 @@ pub enum Refusal {
     /// An array or a map stands inside 127 others. It holds how many bytes are before its items.
     TooDeep(u64),
     /// The message of a value that isn't written.
-    Message(String),
+    Message(Box<String>),
 }
-
-/// What a step returns.
-pub(crate) type Result<T> = std::result::Result<T, Refusal>;
 
 impl Refusal {
     /// With this message, where there is memory for it.
-    pub(crate) fn message(alloc: Global, text: &str) -> Refusal {
-        match String::from_str(alloc, text) {
+    #[cold]
+    #[inline(never)]
+    pub(crate) fn message(alloc: Global, text: &str) -> Refusal
+        ensures { IsMessage result }
+    {
+        let Ok(text) = String::from_str(alloc, text) else {
+            return Refusal::OutOfMemory;
+        };
+        match Box::new(alloc, text) {
             Ok(text) => Refusal::Message(text),
             Err(_) => Refusal::OutOfMemory,
         }
     }
-}
 
-impl From<AllocError> for Refusal {
-    ghost use Rattle.std.specs.Prelude.{◌≡◌};
-    ghost use Rattle.cbor_serde_ser.specs.declared.refusal.Refusal.TheVariants as refusal;
-
-    ghost from_gives = { λ _ r. r ≡ refusal.OutOfMemory };
-
-    fn from(_error: AllocError) -> Refusal {
-        Refusal::OutOfMemory
-    }
-}
-
-impl<T: Drop> From<AllocFailed<T>> for Refusal {
-    ghost use Rattle.std.specs.Prelude.{◌≡◌};
-    ghost use Rattle.cbor_serde_ser.specs.declared.refusal.Refusal.TheVariants as refusal;
-
-    ghost from_gives = { λ _ r. r ≡ refusal.OutOfMemory };
-
-    fn from(_error: AllocFailed<T>) -> Refusal {
-        Refusal::OutOfMemory
+    /// For this reason, after so many bytes.
+    pub(crate) fn of(alloc: Global, reason: Reason, offset: u64) -> Refusal
+        ensures { IsRefusalFor reason offset result }
+    {
+        match reason {
+            Reason::OutOfMemory => Refusal::OutOfMemory,
+            Reason::TooDeep => Refusal::TooDeep(offset),
+            other => Refusal::message(alloc, other.message()),
+        }
     }
 }
 
@@ -62,7 +58,7 @@ impl From<Refusal> for Error {
         match refusal {
             Refusal::OutOfMemory => Error::at(ErrorCode::OutOfMemory, 0),
             Refusal::TooDeep(offset) => Error::at(ErrorCode::RecursionLimitExceeded, offset),
-            Refusal::Message(text) => Error::at(ErrorCode::Message(text), 0),
+            Refusal::Message(text) => Error::at(ErrorCode::Message(Box::into_inner(text)), 0),
         }
     }
 }

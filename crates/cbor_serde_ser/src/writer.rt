@@ -1,15 +1,20 @@
 //! The bytes of the events so far, and what is due after them.
 
-ghost use Rattle.std.specs.Prelude.{◌≡◌, ◌++◌, Some, true, false, IfOk, OnOk};
+ghost use Rattle.std.specs.Prelude.{◌≡◌, ◌≤◌, ◌++◌, ℕ, List, [], Some, None, true, false, length};
+ghost use Rattle.std.specs.Prelude.{IfErr, IfOk, OnErr, OnOk};
 ghost use Rattle.serde.specs.Spelling.{spelled};
 ghost use Rattle.serde.specs.declared.name.NameKind.TheVariants.{Field};
-ghost use Rattle.cbor_serde_ser.specs.Document.{after_item, begins, start, item, opens, ends};
-ghost use Rattle.cbor_serde_ser.specs.Document.{is_plain, is_text, level_start, name_bytes, whole};
-ghost use Rattle.cbor_serde_ser.specs.State.{state};
+ghost use Rattle.cbor_serde_ser.specs.Document.{after_item, begins, start, item, opened, opens};
+ghost use Rattle.cbor_serde_ser.specs.Document.{is_plain, is_text, level_start, name_bytes};
+ghost use Rattle.cbor_serde_ser.specs.Document.{ends, whole};
+ghost use Rattle.cbor_serde_ser.specs.Reasons.{IsRefusalFor};
+ghost use Rattle.cbor_serde_ser.specs.State.{MayNot, state};
+ghost use Rattle.cbor_serde_ser.specs.declared.reason.Reason.TheVariants.{OutOfMemory, TooDeep};
 
 use crate::bytes::{put, put_head, put_name};
 use crate::level::Level;
-use crate::refusal::{Refusal, Result};
+use crate::reason::{Reason, Step};
+use crate::refusal::Refusal;
 use cbor_io::head::Major;
 use cbor_serde_options::{Options, number_of};
 use serde::{Case, NameKind};
@@ -53,24 +58,27 @@ impl Writer {
         }
     }
 
-    // Refuses what is no document.
+    /// The refusal of a step, for this reason.
     #[cold]
     #[inline(never)]
-    pub(crate) fn refuse(&self, message: &'static str) -> Refusal {
-        Refusal::message(self.alloc, message)
+    pub(crate) fn refusal(&self, reason: Reason) -> Refusal
+        ensures { IsRefusalFor reason (length self.now.out.items) result }
+    {
+        Refusal::of(self.alloc, reason, self.out.len() as u64)
     }
 
     /// The whole document, by these options, which are the serializer's.
-    pub(crate) fn finish(self, options: Options) -> Result<Vec<u8>>
+    pub(crate) fn finish(self, options: Options) -> Step<Vec<u8>>
         ensures options { OnOk result (self.options ≡ options) }
         ensures whole { IfOk result (λ bytes. whole (state self) ≡ Some bytes.items) }
+        ensures refused { OnErr result ((self.options ≡ options) → whole (state self) ≡ None) }
     {
         if self.options != options {
-            return Err(self.refuse("the options changed"));
+            return Err(Reason::OtherOptions);
         }
         let is_full = !self.level.at_value && self.level.left == Some(0);
         if !self.outer.is_empty() || self.flattens || !is_full {
-            return Err(self.refuse("no whole item was written"));
+            return Err(Reason::NotWhole);
         }
         let Writer { out, .. } = self;
         Ok(out)
@@ -78,10 +86,11 @@ impl Writer {
 
     // Writes the head that waits, where what comes is no field.
     #[inline(always)]
-    pub(crate) fn settle(&mut self) -> Result<()>
+    pub(crate) fn settle(&mut self) -> Step<()>
         ensures begins { OnOk result
             (begins false (state self.old) self.old.begun ≡ Some (state self.new)) }
         ensures options { self.new.options ≡ self.old.options }
+        ensures refused { IfErr result (MayNot (begins false (state self.old) self.old.begun)) }
     {
         match self.begun {
             None => Ok(()),
@@ -91,11 +100,14 @@ impl Writer {
 
     // Writes the head that waits, where a field comes.
     #[inline(always)]
-    pub(crate) fn settle_field(&mut self, name: &str, case: Case) -> Result<()>
+    pub(crate) fn settle_field(&mut self, name: &str, case: Case) -> Step<()>
         ensures begins { OnOk result
             (begins (is_plain self.old.options.integer_keys (spelled case Field name.now))
             (state self.old) self.old.begun ≡ Some (state self.new)) }
         ensures options { self.new.options ≡ self.old.options }
+        ensures refused { IfErr result (MayNot
+            (begins (is_plain self.old.options.integer_keys (spelled case Field name.now))
+            (state self.old) self.old.begun)) }
     {
         match self.begun {
             None => Ok(()),
@@ -108,10 +120,11 @@ impl Writer {
 
     // Whether the name of a field is no integer, where names may be integers.
     #[inline(never)]
-    fn is_plain(&mut self, name: &str, case: Case) -> Result<bool>
+    fn is_plain(&mut self, name: &str, case: Case) -> Step<bool>
         ensures plain { IfOk result
             (λ b. b ≡ is_plain self.old.options.integer_keys (spelled case Field name.now)) }
         ensures rest { self.new ≡ record self.old { room = self.new.room } }
+        ensures refused { IfErr result (λ why. why ≡ OutOfMemory) }
     {
         if !self.options.integer_keys {
             return Ok(true);
@@ -123,77 +136,82 @@ impl Writer {
 
     // Writes the head of the map that waits.
     #[inline(never)]
-    fn begin_at_last(&mut self, left: Option<u64>, is_field: bool) -> Result<()>
+    fn begin_at_last(&mut self, left: Option<u64>, is_field: bool) -> Step<()>
         ensures begins { OnOk result
             (begins is_field (state self.old) (Some left) ≡ Some (state self.new)) }
         ensures options { self.new.options ≡ self.old.options }
+        ensures refused { IfErr result (MayNot (begins is_field (state self.old) (Some left))) }
     {
         self.begun = None;
-        let level = if is_field {
-            Level::fields(left)
-        } else {
-            Level::open(left, true)
-        };
-        self.begin(level)
+        self.begin(left, !is_field)?;
+        self.level.drops_names = is_field;
+        Ok(())
     }
 
     // An item comes, where nothing waits.
     #[inline(always)]
-    pub(crate) fn item(&mut self) -> Result<()>
+    pub(crate) fn item(&mut self) -> Step<()>
         ensures due { OnOk result ((self.old.flattens ≡ false)
             × (after_item self.old.level ≡ Some self.new.level)) }
         ensures rest { self.new ≡ record self.old { level = self.new.level } }
+        ensures refused { OnErr result ((bytes : List ℕ) → item (state self.old) bytes ≡ None) }
+        ensures depth { IfErr result (λ why. why ≡ TooDeep → ⊥) }
     {
         if self.flattens {
-            return Err(self.refuse("can only flatten structs and maps"));
+            return Err(Reason::NotFlat);
         }
         if !self.level.count_item() {
-            return Err(self.refuse("more items than the length that was declared"));
+            return Err(Reason::TooManyItems);
         }
         Ok(())
     }
 
     // An array or a map begins.
+    #[inline(never)]
     #[tactic(auto, using(crate::proofs::Opening::few_around, crate::proofs::Contents::count_passes))]
-    pub(crate) fn begin(&mut self, level: Level) -> Result<()>
+    pub(crate) fn begin(&mut self, left: Option<u64>, is_map: bool) -> Step<()>
         ensures opens { OnOk result
-            (opens (state self.old) (level_start level) level ≡ Some (state self.new)) }
+            (let level = opened left is_map in
+            opens (state self.old) (level_start level) level ≡ Some (state self.new)) }
         ensures options { self.new.options ≡ self.old.options }
+        ensures refused { IfErr result (let level = opened left is_map in
+            MayNot (opens (state self.old) (level_start level) level)) }
+        // It is too deep only where 127 are open, and said to be so where an item is due.
+        ensures depth { IfErr result (λ why. why ≡ TooDeep → 127 ≤ length self.old.outer.items) }
+        ensures due { IfErr result (λ why. (why ≡ TooDeep → ⊥)
+            → MayNot (item (state self.old) []) why) }
     {
         self.item()?;
-        match level.left {
+        match left {
             Some(n) => {
-                let major = if level.is_map {
-                    Major::Map
-                } else {
-                    Major::Array
-                };
+                let major = if is_map { Major::Map } else { Major::Array };
                 put_head(&mut self.out, major, n)?;
             }
-            None => put(&mut self.out, &[if level.is_map { 0xbf } else { 0x9f }])?,
+            None => put(&mut self.out, &[if is_map { 0xbf } else { 0x9f }])?,
         }
         if MAX_LEVELS <= self.outer.len() {
-            return Err(Refusal::TooDeep(self.out.len() as u64));
+            return Err(Reason::TooDeep);
         }
         self.outer.push(self.level)?;
-        self.level = level;
+        self.level = Level::open(left, is_map);
         Ok(())
     }
 
     // It ends, or a map within it ends whose members are its own.
-    pub(crate) fn end(&mut self) -> Result<()>
+    pub(crate) fn end(&mut self) -> Step<()>
         ensures ends { OnOk result (ends (state self.old) ≡ Some (state self.new)) }
         ensures options { self.new.options ≡ self.old.options }
+        ensures refused { IfErr result (MayNot (ends (state self.old))) }
     {
         if self.level.flat != 0 {
             self.level.flat -= 1;
             return Ok(());
         }
         if !self.level.is_full() {
-            return Err(self.refuse("fewer items than the length that was declared"));
+            return Err(Reason::TooFewItems);
         }
         let Some(outer) = self.outer.pop() else {
-            return Err(self.refuse("nothing is open that could end"));
+            return Err(Reason::NothingOpen);
         };
         let ended = self.level;
         self.level = outer;
@@ -211,36 +229,33 @@ impl Writer {
         case: Case,
         kind: NameKind,
         as_integer: bool,
-    ) -> Result<()>
+    ) -> Step<()>
         ensures text { OnOk result (is_text (spelled case kind name.now) ≡ true) }
         ensures item { OnOk result (item (state self.old)
             (name_bytes as_integer (spelled case kind name.now)) ≡ Some (state self.new)) }
         ensures options { self.new.options ≡ self.old.options }
+        ensures refused { IfErr result (MayNot (item (state self.old)
+            (name_bytes as_integer (spelled case kind name.now)))) }
     {
         self.item()?;
         if let Case::AsIs = case {
-            return put_name(self.alloc, &mut self.out, name, as_integer);
+            return put_name(&mut self.out, name, as_integer);
         }
         self.put_spelled(name, case, kind, as_integer)
     }
 
     // Appends a name in another case.
     #[inline(never)]
-    fn put_spelled(
-        &mut self,
-        name: &str,
-        case: Case,
-        kind: NameKind,
-        as_integer: bool,
-    ) -> Result<()>
+    fn put_spelled(&mut self, name: &str, case: Case, kind: NameKind, as_integer: bool) -> Step<()>
         ensures text { OnOk result (is_text (spelled case kind name.now) ≡ true) }
         ensures appended { OnOk result (state self.new ≡ record (state self.old) {
           bytes = self.old.out.items ++ name_bytes as_integer (spelled case kind name.now);
         }) }
         ensures options { self.new.options ≡ self.old.options }
+        ensures refused { IfErr result (λ why. why ≡ OutOfMemory) }
     {
         self.room.clear();
         case.append(kind, name, &mut self.room)?;
-        put_name(self.alloc, &mut self.out, self.room.as_str(), as_integer)
+        put_name(&mut self.out, self.room.as_str(), as_integer)
     }
 }

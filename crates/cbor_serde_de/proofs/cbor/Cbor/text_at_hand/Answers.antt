@@ -1,4 +1,4 @@
-use Rattle.std.proofs.Common.{◌∙◌, sym, subst}
+use Rattle.std.proofs.Common.{sym, subst}
 use Rattle.std.specs.Str.{IsUtf8}
 use Rattle.cbor_model.specs.Readable.{IsText}
 use Rattle.cbor_serde_de.specs.AtHand.{BeginsText}

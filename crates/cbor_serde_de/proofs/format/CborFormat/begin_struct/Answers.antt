@@ -1,8 +1,7 @@
-use Rattle.std.proofs.Common.{inl, inr}
+use Rattle.cbor_serde_de.proofs.Looks.{structs_behind}
 use Rattle.cbor_serde_de.proofs.format.CborFormat.begin_struct.Goals as goal
 
-pub returns-in_ok-begin_seq-in-Seq : goal.returns-in_ok-begin_seq-in-Seq
-returns-in_ok-begin_seq-in-Seq c = inr (c.kind.new.self, inl c.in_ok-kind.ensures, c.in_ok-begin_seq-in-Seq.ensures)
-
-pub returns-in_ok-begin_map-in_default : goal.returns-in_ok-begin_map-in_default
-returns-in_ok-begin_map-in_default c = inr (c.kind.new.self, inl c.in_ok-kind.ensures, c.in_ok-begin_map-in_default.ensures)
+pub returns-in-None : goal.returns-in-None
+returns-in-None c =
+    let h = c.in-None.ensures in
+    structs_behind c.args.self.now c.map_at_hand.new.decoder c.any_struct.new.self h.read h.levels h.formats c.any_struct.result c.any_struct.ensures
