@@ -28,6 +28,7 @@ pub use Rattle.cbor_read.specs.Sources
 pub use Rattle.cbor_io.specs.Write
 pub use Rattle.cbor_buffered.specs.Block
 pub use Rattle.cbor_buffered.specs.Unsent
+pub use Rattle.cbor_length.specs.Count
 pub use Rattle.cbor_value.specs.Floats
 pub use Rattle.cbor_value.specs.Shortest
 pub use Rattle.cbor_value.specs.View
@@ -42,6 +43,7 @@ pub use Rattle.cbor_decode.specs.Gives
 pub use Rattle.cbor_decode.specs.AtEnd
 pub use Rattle.cbor_decode.specs.Memory
 pub use Rattle.cbor_decode.specs.FirstRefusal
+pub use Rattle.cbor_pushed.specs.ItemAtFront
 pub use Rattle.cbor_decode_as.specs.Takes
 pub use Rattle.cbor_de.specs.Calls
 pub use Rattle.cbor_de.specs.Access
@@ -64,6 +66,8 @@ pub use Rattle.cbor_strict.specs.StrictRefusals
 pub use Rattle.cbor_strict.specs.StrictAnswers
 pub use Rattle.cbor_rules.specs.Features
 pub use Rattle.cbor_rules.specs.Rules
+pub use Rattle.cbor_rules.specs.Unique
+pub use Rattle.cbor_rules.specs.Limits
 pub use Rattle.cbor_rules.specs.Answers
 pub use Rattle.cbor_rules.specs.NextItem
 pub use Rattle.cbor_rules.specs.Presets
@@ -73,6 +77,8 @@ pub use Rattle.cbor_decode_as.specs.BeginsEnum
 pub use Rattle.cbor_decode_as.specs.Cases
 pub use Rattle.cbor_decode_as.specs.Arrays
 pub use Rattle.cbor_decode_as.specs.Maps
+pub use Rattle.cbor_de.specs.Sets
+pub use Rattle.cbor_de.specs.Cows
 pub use Rattle.cbor_decode_as.specs.MapAccesses
 pub use Rattle.cbor_decode_as.specs.TaggedHeads
 pub use Rattle.cbor_decode_as.specs.Nulls
@@ -120,6 +126,7 @@ pub use Rattle.cbor_forms.specs.LengthFirst
 pub use Rattle.cbor_round_trip.specs.ReadBack
 pub use Rattle.cbor_round_trip.specs.TypeLaws
 pub use Rattle.cbor_round_trip.specs.Keyed
+pub use Rattle.cbor_round_trip.specs.Members
 pub use Rattle.cbor_round_trip.specs.Lists
 pub use Rattle.cbor_round_trip.specs.CutOff
 pub use Rattle.cbor_round_trip.specs.Sequences

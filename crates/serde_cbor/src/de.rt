@@ -1,6 +1,7 @@
 //! Reading: the four `from_*` read a whole input as a type, and a [`Deserializer`] reads types
 //! from a source, one after the other. A struct or an enum is read by its description
-//! ([`read_described`]), or part by part ([`Deserialize`]).
+//! ([`read_described`]), or part by part ([`Deserialize`]). Where bytes come in pieces,
+//! [`PushedItems`] says when the next item is whole.
 
 pub use cbor_buffered::BufferedRead;
 pub use cbor_de::{
@@ -16,5 +17,6 @@ pub use cbor_de::{
 pub use cbor_described::{
     ReadBy, ReadParts, ReadableParts, ReadableTuple, Variant, read_described,
 };
+pub use cbor_pushed::PushedItems;
 pub use cbor_round_trip::RoundTrip;
 pub use cbor_strict::{from_slice_canonical, from_slice_canonical_as};

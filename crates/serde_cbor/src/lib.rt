@@ -50,6 +50,7 @@ pub use cbor_de::{
 pub use cbor_forms::{to_vec_dcbor, to_vec_deterministic, to_vec_length_first};
 pub use cbor_io::error::{Error, Result};
 pub use cbor_io::{error, write};
+pub use cbor_length::encoded_len;
 pub use cbor_model as model;
 pub use cbor_parts as parts;
 pub use cbor_read as read;

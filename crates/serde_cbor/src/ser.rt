@@ -1,7 +1,9 @@
 //! Writing: [`to_vec`] encodes a value, or a type that says its document ([`Serialize`]), and
-//! [`to_writer`] writes it to a sink, as a [`Serializer`] does one after the other.
+//! [`to_writer`] writes it to a sink, as a [`Serializer`] does one after the other;
+//! [`encoded_len`] tells how long it will be.
 
 pub use cbor_buffered::BufferedWrite;
+pub use cbor_length::{ByteCount, encoded_len};
 pub use cbor_ser::{
     CollectionSerializer, FieldDocument, FieldsDocument, IoWrite, Items, NamedFields,
     OptionalField, PartsDocument, Serialize, SerializeField, SerializeFields, SerializeTuple,

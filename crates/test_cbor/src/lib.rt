@@ -1,7 +1,7 @@
 //! Tests over all of `serde_cbor`: what a user knows by the public contracts alone (`laws`), a
 //! function that says by these what it finds in a map (`lookup`), a tree of a user's own that is
-//! refused, what is written to sinks of each kind, what values of types stand for, boxes and what
-//! is lent, and a stream that goes on after a message of the wrong type.
+//! refused, what is written to sinks of each kind, and how long it is, what values of types stand
+//! for, boxes, sets and what is lent, and a stream that goes on after a message of the wrong type.
 #![tactic(auto)]
 
 #[cfg(test)]
@@ -15,10 +15,14 @@ mod holders;
 #[cfg(test)]
 mod laws;
 #[cfg(test)]
+mod lengths;
+#[cfg(test)]
 mod literal;
 pub mod lookup;
 #[cfg(test)]
 mod messages;
+#[cfg(test)]
+mod sets;
 #[cfg(test)]
 mod sinks;
 #[cfg(test)]
