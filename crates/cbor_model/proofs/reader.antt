@@ -14,3 +14,4 @@ pub mod Whole
 pub mod Agrees
 pub mod Scratch
 pub mod RawReader
+pub mod Encoding

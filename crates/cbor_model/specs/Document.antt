@@ -1,11 +1,12 @@
 -- Documents: what a typed value says before a serializer's settings choose how names and enums are
 -- spelled, and the raw item of a document.
 use Rattle.std.specs.Prelude.{◌≡◌, ℕ, suc, ◌^◌, ◌<◌, List, [], ◌∷◌, Bool, true, false, ℤ}
-use Rattle.std.specs.Prelude.{pos, negsuc, refl, codes}
-use Rattle.cbor_model.specs.Head.{least}
+use Rattle.std.specs.Prelude.{pos, negsuc, refl, codes, IsUtf8}
+use Rattle.cbor_model.specs.Head.{least, one_byte}
 use Rattle.cbor_model.specs.Raw as raw
 use Rattle.cbor_model.specs.Raw.{Raw, Raws, no_raws, RawPairs, no_raw_pairs, raw_pair, FloatWidth}
 use Rattle.cbor_model.specs.Raw.{float_limit, null_item, definite, indefinite, count, pair_count}
+use Rattle.cbor_model.specs.Raw.{IsWellFormed, EachText}
 use Rattle.cbor_model.specs.Plain as plain
 use Rattle.cbor_model.specs.Plain.{Val, Vals, no_vals, val, Pairs, no_pairs, pair}
 use Rattle.cbor_model.specs.Canonical.{chunk_of, canonical_bool, canonical_integer, canon}
@@ -19,7 +20,8 @@ pub data Length : Type 0 where
   undeclared : Length
 
 -- Fields and variants have a number and a name. A struct and a tuple struct declare their lengths,
--- a newtype struct is the document within, and a unit struct is null.
+-- a newtype struct is the document within, and a unit struct is null. What was encoded elsewhere is
+-- an item, which stays as it is.
 mutual
   pub data Doc : Type 0 where
     null : Doc
@@ -36,6 +38,7 @@ mutual
     tuple_variant : ℕ → List ℕ → Docs → Doc
     struct_variant : ℕ → List ℕ → Fields → Doc
     tagged : ℕ → Doc → Doc
+    encoded : Raw → Doc
 
   pub data Docs : Type 0 where
     no_docs : Docs
@@ -94,8 +97,9 @@ FitsCount declared n = n < 2 ^ 64
 FitsCount undeclared n = Unit {0}
 
 -- Lengths, declared counts and the numbers of tags, fields and variants are below 2^64, a float's
--- bits fit its width, strings hold bytes, and texts and names are UTF-8. The document of what a
--- program holds always is in range.
+-- bits fit its width, strings hold bytes, and texts and names are UTF-8. An item that was encoded
+-- elsewhere is well formed, with texts that are UTF-8. The document of what a program holds always
+-- is in range.
 abbrev mutual
   pub IsDocumentInRange : Doc → Type 0
   IsDocumentInRange (float w bits) = bits < float_limit w
@@ -112,6 +116,7 @@ abbrev mutual
   IsDocumentInRange (struct_variant i n fs) =
       (i < 2 ^ 64) × IsTextString n × (field_count fs < 2 ^ 64) × AreFieldsInRange fs
   IsDocumentInRange (tagged n d) = (n < 2 ^ 64) × IsDocumentInRange d
+  IsDocumentInRange (encoded r) = IsWellFormed r × EachText IsUtf8 r
   IsDocumentInRange _ = Unit {0}
 
   pub AreDocumentsInRange : Docs → Type 0
@@ -154,7 +159,8 @@ variant_of false key content id parts = map_of declared (raw_pair key content no
 variant_of true key content id parts = array_of declared (raw.raw id parts)
 
 -- The raw item: least widths, and definite where the length is declared, else indefinite. A struct
--- variant alone has its number as the key of the map form where the format is packed.
+-- variant alone has its number as the key of the map form where the format is packed. An item that
+-- was encoded elsewhere is that item.
 unfoldable mutual
   pub raw_of : Doc → Bool → Bool → Raw
   raw_of null packed legacy = raw.simple null_item
@@ -175,6 +181,7 @@ unfoldable mutual
       variant_of legacy (identifier packed i n) (map_of declared (raw_fields_of fs packed legacy))
       (identifier packed i n) (raw.raw (map_of declared (raw_fields_of fs packed legacy)) no_raws)
   raw_of (tagged n d) packed legacy = raw.tag (least n) n (raw_of d packed legacy)
+  raw_of (encoded r) packed legacy = r
 
   pub raws_of : Docs → Bool → Bool → Raws
   raws_of no_docs packed legacy = no_raws
@@ -242,6 +249,12 @@ open_within : document_bytes (sequence declared (doc (integer (negsuc 4)) (doc (
     ≡ 0x82 ∷ 0x24 ∷ 0x9f ∷ 0xf6 ∷ 0xff ∷ []
 unfolding document_bytes raw_of spell
 open_within = refl
+
+-- [1], whose number was encoded in two bytes
+kept_width : document_bytes (sequence declared (doc (encoded (raw.unsigned one_byte 1)) no_docs)) false false
+    ≡ 0x81 ∷ 0x18 ∷ 0x01 ∷ []
+unfolding document_bytes raw_of spell
+kept_width = refl
 
 -- a struct of the fields a and c, of which the field b between them is left out
 abbrev skipping : Doc

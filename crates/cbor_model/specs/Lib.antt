@@ -21,5 +21,6 @@ pub mod Unstored
 pub mod Formats
 pub mod Readable
 pub mod RawReader
+pub mod Encoding
 pub mod Wanted
 pub mod Allowed

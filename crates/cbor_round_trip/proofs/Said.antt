@@ -18,6 +18,7 @@ use Rattle.cbor_decode.specs.AtEnd.{EndRefused}
 use Rattle.cbor_decode.specs.Gives.{Ends, ReportsIo}
 use Rattle.cbor_decode_as.specs.Takes.{ExcusedBy, TakesItem, lending}
 use Rattle.cbor_de.specs.ItemTaken.{BeginsAs, BeginsAsNone, ItemTaken, TookItem}
+use Rattle.cbor_round_trip.specs.NoChunks.{HasNoChunks}
 use Rattle.cbor_round_trip.specs.ReadBack.{IsWrittenReadBack}
 use Rattle.cbor_round_trip.specs.Said.{SaysOnlyWithin, SaysWithin}
 use Rattle.cbor_round_trip.proofs.NoChunks.{no_chunks}
@@ -29,7 +30,7 @@ lends = record { whole = true; joined = false }
 -- ---- what was written
 
 module _ {A : Type 0} {document : A → Doc} {reads : Context → Raw → A → Type 0} {fits : A → Type 0} (law : IsWrittenReadBack document reads fits)
-    (packed legacy : Bool) (levels : ℕ) (within : levels ≤ max_depth) (x : A) (fit : fits x) (plain : depth (raw_of (document x) packed legacy) ≤ levels) where
+    (packed legacy : Bool) (levels : ℕ) (within : levels ≤ max_depth) (x : A) (fit : fits x) (plain : depth (raw_of (document x) packed legacy) ≤ levels) (unchunked : HasNoChunks (document x)) where
   -- within as many levels as it nests, or more, it says what was written
   pub says_written : (bytes : List ℕ) → IsStorableDocument (document x) → IsDocumentInRange (document x) → bytes ≡ document_bytes (document x) packed legacy
       → SaysOnlyWithin levels document (reads (lending all_formats lends)) bytes x
@@ -46,7 +47,7 @@ module _ {A : Type 0} {document : A → Doc} {reads : Context → Raw → A → 
           keys = subst (HasAllowedKeys all_formats) same spelt.keys;
           means = subst (λ (item : Raw). reads (lending all_formats lends) item x) same spelt.means;
         };
-        fits = (let none = no_chunks (document x) packed legacy in omega arith);
+        fits = (let none = no_chunks (document x) packed legacy unchunked in omega arith);
         alone = λ y says. law.alone x y fit lends packed legacy stored range (record {
           item = says.item;
           acceptable = record {

@@ -18,4 +18,5 @@ pub mod Sequences
 pub mod Filled
 pub mod StreamedItems
 pub mod Nesting
+pub mod NoChunks
 pub mod Said

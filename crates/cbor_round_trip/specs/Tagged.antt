@@ -1,7 +1,7 @@
 -- What is read back is so within a tag, and without one unless it has a tag of its own.
 use Rattle.std.proofs.Common.{◌≡◌, ℕ, Bool, true, false, pos, negsuc, Option, Some, None, refl, sym, ap, ap₂, ◌∙◌}
 use Rattle.std.specs.Prelude.{◌↔◌}
-use Rattle.cbor_model.specs.Document.{Doc, null, bool, integer, float, bytes, text, sequence, mapping, structure, unit_variant, newtype_variant, tuple_variant, struct_variant, tagged, raw_of}
+use Rattle.cbor_model.specs.Document.{Doc, null, bool, integer, float, bytes, text, sequence, mapping, structure, unit_variant, newtype_variant, tuple_variant, struct_variant, tagged, encoded, raw_of}
 use Rattle.cbor_model.specs.Formats.{all_formats}
 use Rattle.cbor_model.specs.Raw as raw
 use Rattle.cbor_model.specs.Raw.{Raw}
@@ -11,9 +11,15 @@ use Rattle.cbor_decode_as.specs.Takes.{lending}
 use Rattle.cbor_convert.specs.Tagged.{tagged_document, IsTagged}
 use Rattle.cbor_round_trip.specs.ReadBack.{IsReadBack}
 
+-- no tag is outermost
+abbrev pub IsUntagged : Raw → Type 0
+IsUntagged (raw.tag w n r) = ⊥
+IsUntagged r = Unit {0}
+
 -- without a tag of its own
 abbrev pub HasNoTag : Doc → Type 0
 HasNoTag (tagged n d) = ⊥
+HasNoTag (encoded r) = IsUntagged r
 HasNoTag d = Unit {0}
 
 -- a value that is within no tag has none of its own
@@ -45,6 +51,17 @@ module _ {A : Type 0} (reads : Raw → A → Type 0) (tag : Option ℕ) (x : A) 
   no_tag (struct_variant i n fs) p false h = ((λ is. is), (λ is. is))
   no_tag (struct_variant i n fs) p true h = ((λ is. is), (λ is. is))
   no_tag (tagged n d) p g h = absurd h
+  no_tag (encoded (raw.unsigned w n)) p g h = ((λ is. is), (λ is. is))
+  no_tag (encoded (raw.negative w n)) p g h = ((λ is. is), (λ is. is))
+  no_tag (encoded (raw.bytes c)) p g h = ((λ is. is), (λ is. is))
+  no_tag (encoded (raw.text c)) p g h = ((λ is. is), (λ is. is))
+  no_tag (encoded (raw.bytes_chunks cs)) p g h = ((λ is. is), (λ is. is))
+  no_tag (encoded (raw.text_chunks cs)) p g h = ((λ is. is), (λ is. is))
+  no_tag (encoded (raw.array l rs)) p g h = ((λ is. is), (λ is. is))
+  no_tag (encoded (raw.map l ps)) p g h = ((λ is. is), (λ is. is))
+  no_tag (encoded (raw.simple s)) p g h = ((λ is. is), (λ is. is))
+  no_tag (encoded (raw.float w bits)) p g h = ((λ is. is), (λ is. is))
+  no_tag (encoded (raw.tag w n r)) p g h = absurd h
 
 -- the outermost tag of an item, if it has one, and the item within it
 abbrev outermost : Raw → Option ℕ

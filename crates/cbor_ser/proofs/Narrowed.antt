@@ -6,7 +6,7 @@ use Rattle.std.specs.Float.Ieee as ieee
 use Rattle.std.specs.Float.Ieee.{fits, to_bits}
 use Rattle.cbor_model.specs.Raw.{FloatWidth, half, single, double}
 use Rattle.cbor_model.specs.Plain.{Val}
-use Rattle.cbor_model.specs.Document.{Doc, Docs, DocPairs, Fields, null, bool, integer, float, bytes, text, unit_variant, sequence, mapping, structure, newtype_variant, tuple_variant, struct_variant, tagged, no_docs, doc, no_doc_pairs, doc_pair, no_fields, field, document_of, doc_count, doc_pair_count, field_count, IsStorableDocument, AreStorableDocuments, AreStorableDocumentPairs, AreStorableFields}
+use Rattle.cbor_model.specs.Document.{Doc, Docs, DocPairs, Fields, null, bool, integer, float, bytes, text, unit_variant, sequence, mapping, structure, newtype_variant, tuple_variant, struct_variant, tagged, encoded, no_docs, doc, no_doc_pairs, doc_pair, no_fields, field, document_of, doc_count, doc_pair_count, field_count, IsStorableDocument, AreStorableDocuments, AreStorableDocumentPairs, AreStorableFields}
 use Rattle.cbor_model.specs.Parts.{Part, nothing, item, array_head, map_head, ending, tag_head, newtype_head, tuple_head, struct_head, field_part, both, items, pairs, fields, said, parts, IsStorablePart}
 use Rattle.cbor_value.specs.Floats.{number, number_of}
 use Rattle.cbor_value.specs.Shortest.{half_of, half_or_single, shortest}
@@ -33,6 +33,7 @@ mutual
   wide (bytes b) = refl
   wide (text b) = refl
   wide (unit_variant i n) = refl
+  wide (encoded r) = refl
 
   all_wide : (ds : Docs) → all_narrowed false ds ≡ ds
   all_wide no_docs = refl
@@ -92,6 +93,7 @@ mutual
   storable_narrowed b (bytes x) h = tt
   storable_narrowed b (text x) h = tt
   storable_narrowed b (unit_variant i n) h = tt
+  storable_narrowed b (encoded r) h = tt
 
   all_storable : (b : Bool) (ds : Docs) → AreStorableDocuments ds → AreStorableDocuments (all_narrowed b ds)
   all_storable b no_docs h = tt
@@ -159,3 +161,4 @@ parts_narrowed b (integer z) = refl
 parts_narrowed b (bytes x) = refl
 parts_narrowed b (text x) = refl
 parts_narrowed b (unit_variant i n) = refl
+parts_narrowed b (encoded r) = refl

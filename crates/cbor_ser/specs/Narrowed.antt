@@ -16,8 +16,8 @@ abbrev pub narrowed_float : Bool → FloatWidth → ℕ → Doc
 narrowed_float false w bits = float w bits
 narrowed_float true w bits = document_of (shortest (number w bits))
 
--- The document with each of its floats so. All else of it stays, and so does the order of a map's
--- pairs.
+-- The document with each of its floats so. All else of it stays: what was encoded elsewhere, and the
+-- order of a map's pairs too.
 abbrev mutual
   pub narrowed : Bool → Doc → Doc
   narrowed b (float w bits) = narrowed_float b w bits

@@ -1,13 +1,14 @@
--- How deep a configuration nests, and which numbers it has.
+-- How deep a configuration nests, that it has no string in chunks, and which numbers it has.
 use Rattle.std.proofs.Common.{◌≡◌, ◌<◌, refl, ◌^◌, ℕ, Vec, Bool, Option, Some, None, string_bytes, arith}
 use Rattle.std.specs.Prelude.{IfSome, String}
 use Rattle.std.specs.Global.{Global}
 use Rattle.serde_cbor.specs.Document.{IsStorableDocument, text}
 use Rattle.serde_cbor.specs.Nesting.{NestsWithin}
+use Rattle.serde_cbor.specs.NoChunks.{HasNoChunks}
 use Rattle.serde_cbor.specs.PartLists.{document_if}
 use Rattle.serde_cbor.specs.Raw.{AreBytes}
 use Rattle.serde_cbor.proofs.facts.Documents.{bool_nests, integer_nests, text_nests, unit_variant_nests, newtype_variant_nests, items_nest, sequence_nests}
-use Rattle.serde_cbor.proofs.facts.Documents.{no_fields_nest, field_nests, field_if_nests, structure_nests, bytes_fit, bytes_stored}
+use Rattle.serde_cbor.proofs.facts.Documents.{no_fields_nest, field_nests, field_if_nests, structure_nests, bytes_fit, bytes_stored, items_unchunked}
 use Rattle.use_device_config.specs.Configs.{most_levels}
 use Rattle.use_device_config.specs.contracts.config.ConfigSerialize.TheImpl as config
 use Rattle.use_device_config.specs.contracts.config.ConfigRoundTrip.TheImpl as law
@@ -32,6 +33,20 @@ config_nests c = structure_nests 3 _
     (field_nests 3 1 _ _ _ (sequence_nests 2 _ _ (items_nest 2 _ c.channels.items (λ x. integer_nests 2 _)))
     (field_if_nests 3 2 _ _ _ (name_nests c.name)
     (field_nests 3 3 _ _ _ (bool_nests 3 c.verbose) (no_fields_nest 3)))))
+
+-- ---- chunks
+
+module _ (channels : Vec ℕ Global) (verbose : Bool) where
+  unchunked : (m : Mode) (name : Option (String Global))
+      → HasNoChunks (config.ghosts.document (record { mode = m; channels = channels; name = name; verbose = verbose }))
+  unchunked Idle None = (tt, (items_unchunked _ channels.items (λ x. tt), (tt, tt)))
+  unchunked Idle (Some s) = (tt, (items_unchunked _ channels.items (λ x. tt), (tt, (tt, tt))))
+  unchunked (Every n) None = (tt, (items_unchunked _ channels.items (λ x. tt), (tt, tt)))
+  unchunked (Every n) (Some s) = (tt, (items_unchunked _ channels.items (λ x. tt), (tt, (tt, tt))))
+
+-- no string that is written is in chunks
+pub config_unchunked : (c : Config) → HasNoChunks (config.ghosts.document c)
+config_unchunked c = unchunked c.channels c.verbose c.mode c.name
 
 -- ---- ranges
 

@@ -11,7 +11,7 @@ use Rattle.cbor_model.specs.Value.{value}
 use Rattle.cbor_model.specs.Laws.{SpellsValue}
 use Rattle.cbor_model.specs.Canonical.{canonical_integer}
 use Rattle.cbor_model.specs.InMemory.{IsTextString}
-use Rattle.cbor_model.specs.Document.{Doc, Docs, DocPairs, Fields, Length, declared, undeclared, null, bool, integer, float, bytes, text, sequence, mapping, structure, unit_variant, newtype_variant, tuple_variant, struct_variant, tagged, no_docs, doc, no_doc_pairs, doc_pair, no_fields, field, identifier, raw_of, raws_of, raw_pairs_of, raw_fields_of, document_bytes, IsStorableDocument, AreStorableDocuments, AreStorableDocumentPairs, AreStorableFields, IsDocumentInRange, AreDocumentsInRange, AreDocumentPairsInRange, AreFieldsInRange, FitsCount, length_of}
+use Rattle.cbor_model.specs.Document.{Doc, Docs, DocPairs, Fields, Length, declared, undeclared, null, bool, integer, float, bytes, text, sequence, mapping, structure, unit_variant, newtype_variant, tuple_variant, struct_variant, tagged, encoded, no_docs, doc, no_doc_pairs, doc_pair, no_fields, field, identifier, raw_of, raws_of, raw_pairs_of, raw_fields_of, document_bytes, IsStorableDocument, AreStorableDocuments, AreStorableDocumentPairs, AreStorableFields, IsDocumentInRange, AreDocumentsInRange, AreDocumentPairsInRange, AreFieldsInRange, FitsCount, length_of}
 use Rattle.cbor_model.proofs.values.Canonical.{lt-limit-least}
 use Rattle.cbor_model.proofs.values.InMemory.{integer_fits, counted}
 use Rattle.cbor_model.proofs.documents.Parts.{counts, pair_counts, field_counts}
@@ -59,6 +59,7 @@ mutual
   fits (struct_variant i n fs) p true s h =
       (lit< tt, (identifier_fits p i n h.0 h.1, ((counted _ _ (field_counts fs p true) h.2, fields_fit fs p true s h.3), tt)))
   fits (tagged n d) p l s h = (lt-limit-least n h.0, fits d p l s h.1)
+  fits (encoded r) p l s h = h.0
 
   all_fit : (ds : Docs) (p l : Bool) → AreStorableDocuments ds → AreDocumentsInRange ds → AreWellFormed (raws_of ds p l)
   all_fit no_docs p l s h = tt
@@ -99,6 +100,7 @@ mutual
   texts (struct_variant i n fs) p false h = (identifier_texts p i n h.1, fields_texts fs p false h.3, tt)
   texts (struct_variant i n fs) p true h = (identifier_texts p i n h.1, (fields_texts fs p true h.3, tt))
   texts (tagged n d) p l h = texts d p l h.1
+  texts (encoded r) p l h = h.1
 
   all_texts : (ds : Docs) (p l : Bool) → AreDocumentsInRange ds → EachTextOfAll IsUtf8 (raws_of ds p l)
   all_texts no_docs p l h = tt

@@ -3,7 +3,7 @@ use Rattle.std.proofs.Common.{◌≡◌, suc, ◌∷◌, ◌++◌, refl, sym, ap
 use Rattle.cbor_model.specs.Head.{short}
 use Rattle.cbor_model.specs.Raw.{count, pair_count}
 use Rattle.cbor_model.specs.Spelling.{spell, spell_all, spell_pairs}
-use Rattle.cbor_model.specs.Document.{Doc, Docs, DocPairs, Fields, declared, undeclared, null, bool, integer, float, bytes, text, sequence, mapping, structure, unit_variant, newtype_variant, tuple_variant, struct_variant, tagged, no_docs, doc, no_doc_pairs, doc_pair, no_fields, field, identifier, name_of, raw_of, raws_of, raw_pairs_of, raw_fields_of, document_bytes, IsStorableDocument, AreStorableDocuments, AreStorableDocumentPairs, AreStorableFields, IsDocumentInRange, AreDocumentsInRange, AreDocumentPairsInRange, AreFieldsInRange, doc_count, doc_pair_count, field_count}
+use Rattle.cbor_model.specs.Document.{Doc, Docs, DocPairs, Fields, declared, undeclared, null, bool, integer, float, bytes, text, sequence, mapping, structure, unit_variant, newtype_variant, tuple_variant, struct_variant, tagged, encoded, no_docs, doc, no_doc_pairs, doc_pair, no_fields, field, identifier, name_of, raw_of, raws_of, raw_pairs_of, raw_fields_of, document_bytes, IsStorableDocument, AreStorableDocuments, AreStorableDocumentPairs, AreStorableFields, IsDocumentInRange, AreDocumentsInRange, AreDocumentPairsInRange, AreFieldsInRange, doc_count, doc_pair_count, field_count}
 use Rattle.cbor_model.specs.Parts.{Part, ending, said, parts, items, pairs, fields, part_bytes, IsStorablePart, IsPartInRange}
 
 pub counts : (ds : Docs) (p l : Bool) → count (raws_of ds p l) ≡ doc_count ds
@@ -71,6 +71,7 @@ parts_bytes (struct_variant i n fs) p false = rw (fields_bytes fs p false, field
     (ap (λ z. 0xa1 ∷ z) (append_assoc (spell (identifier p i n)) (short 5 (field_count fs)) (spell_pairs (raw_fields_of fs p false))
     ∙ ap (λ z. spell (identifier p i n) ++ z) (sym (append-nil (short 5 (field_count fs) ++ spell_pairs (raw_fields_of fs p false))))))
 parts_bytes (tagged n d) p l = refl
+parts_bytes (encoded r) p l = refl
 
 -- ---- a document is storable where its parts are
 
@@ -101,6 +102,7 @@ storable_parts (newtype_variant i n d) h = h.1
 storable_parts (tuple_variant i n ds) h = storable_items ds (ending (Some 0)) h.1
 storable_parts (struct_variant i n fs) h = storable_fields fs h.1
 storable_parts (tagged n d) h = h.1
+storable_parts (encoded r) h = tt
 
 items_storable : (ds : Docs) (end : Part) → IsStorablePart end → AreStorableDocuments ds → IsStorablePart (items ds end)
 items_storable no_docs end e h = e
@@ -129,6 +131,7 @@ parts_storable (newtype_variant i n d) h = (tt, h)
 parts_storable (tuple_variant i n ds) h = (tt, items_storable ds (ending (Some 0)) tt h)
 parts_storable (struct_variant i n fs) h = ((tt, tt), fields_storable fs h)
 parts_storable (tagged n d) h = (tt, h)
+parts_storable (encoded r) h = tt
 
 -- ---- a document is in range where its parts are
 
@@ -161,3 +164,4 @@ parts_in_range (newtype_variant i n d) h = (h.0.0, h.0.1, h.1)
 parts_in_range (tuple_variant i n ds) h = (h.0.0, h.0.1, h.0.2, items_in_range ds (ending (Some 0)) h.1)
 parts_in_range (struct_variant i n fs) h = (h.0.0.0, h.0.0.1, h.0.1, fields_in_range fs h.1)
 parts_in_range (tagged n d) h = h
+parts_in_range (encoded r) h = h

@@ -6,7 +6,7 @@ use Rattle.std.proofs.lemmas.Bool.{ltb-true, ltb-false}
 use Rattle.cbor_model.specs.Head.{short}
 use Rattle.cbor_model.specs.Spelling.{spell}
 use Rattle.cbor_model.specs.Canonical.{IsStorableInteger}
-use Rattle.cbor_model.specs.Document.{Doc, Docs, DocPairs, Fields, null, bool, integer, float, bytes, text, sequence, mapping, structure, unit_variant, newtype_variant, tuple_variant, struct_variant, tagged, no_docs, doc, no_doc_pairs, doc_pair, no_fields, field, doc_count, doc_pair_count, field_count, identifier, document_bytes, IsStorableDocument, AreStorableDocuments, AreStorableDocumentPairs, AreStorableFields}
+use Rattle.cbor_model.specs.Document.{Doc, Docs, DocPairs, Fields, null, bool, integer, float, bytes, text, sequence, mapping, structure, unit_variant, newtype_variant, tuple_variant, struct_variant, tagged, encoded, no_docs, doc, no_doc_pairs, doc_pair, no_fields, field, doc_count, doc_pair_count, field_count, identifier, document_bytes, IsStorableDocument, AreStorableDocuments, AreStorableDocumentPairs, AreStorableFields}
 use Rattle.cbor_model.specs.Parts.{Part, nothing, item, array_head, map_head, ending, tag_head, newtype_head, tuple_head, struct_head, field_part, both, said, array_start, map_start, newtype_start, tuple_start, struct_start, parts, items, pairs, fields, part_bytes, IsStorablePart}
 use Rattle.cbor_model.specs.Unstored.{StandsBefore, StandsBeforeAny, StandsBeforePairs, StandsBeforeFields, StandsBeforeIn}
 
@@ -28,6 +28,7 @@ mutual
   all_stored (bytes b) p l front s h = h
   all_stored (text b) p l front s h = h
   all_stored (unit_variant i n) p l front s h = h
+  all_stored (encoded r) p l front s h = h
 
   pub each_stored : (ds : Docs) (p l : Bool) (front : List ℕ) → AreStorableDocuments ds → StandsBeforeAny ds p l front → ⊥
   each_stored no_docs p l front s h = h
@@ -108,6 +109,7 @@ module _ (p l : Bool) where
   before_parts (bytes b) front h = h
   before_parts (text b) front h = h
   before_parts (unit_variant i n) front h = h
+  before_parts (encoded r) front h = h
 
 -- ---- where not all is stored there is one
 
@@ -143,6 +145,7 @@ module _ (p l : Bool) where
     stored_or_stops (tuple_variant i n ds) = advances (tuple_start i n (doc_count ds) p l) (each_or_stops ds)
     stored_or_stops (struct_variant i n fs) = advances (struct_start i n p l ++ map_start (Some (field_count fs))) (fields_or_stop fs)
     stored_or_stops (tagged n d) = advances (short 6 n) (stored_or_stops d)
+    stored_or_stops (encoded r) = inl tt
 
     each_or_stops : (ds : Docs) → AreStorableDocuments ds ⊎ Stops (StandsBeforeAny ds p l)
     each_or_stops no_docs = inl tt

@@ -21,3 +21,5 @@ pub use Rattle.cbor_model.proofs.reader.ReaderSteps.{key_read, key_is}
 pub use Rattle.cbor_model.proofs.reader.FirstBytes.{all_allowed}
 -- an acceptable item at the front of the bytes is read as its value
 pub use Rattle.cbor_model.proofs.reader.Whole.{value_again}
+-- bytes that encode one item are its spelling, and its spelling encodes it
+pub use Rattle.cbor_model.proofs.reader.Encoding.{encoding_of, is_encoding}
