@@ -222,6 +222,10 @@ impl<R: io::Read> Source for IoRead<R> {
         &self.buffer
     }
 
+    fn buffer_room(&self) -> Option<usize> {
+        None
+    }
+
     // The vector stands in the buffer's place, so that the bytes go straight after it.
     fn read_to_vec(&mut self, n: usize, out: &mut Vec<u8>) -> Result<()> {
         mem::swap(&mut self.buffer, out);

@@ -7,7 +7,7 @@
 
 ghost use Rattle.std.specs.Prelude.{◌≡◌, ◌≢◌, ℕ, ◌<◌, ◌≤◌, ◌^◌, Bool, List, [], ◌∷◌, length, take};
 ghost use Rattle.std.specs.Prelude.{IfOk, IfErr, OnOk, OnErr, IfSome, IsSome, MatchOption};
-ghost use Rattle.std.specs.Prelude.{Some, Option};
+ghost use Rattle.std.specs.Prelude.{Some, Option, true};
 ghost use types.Logic.{sem};
 ghost use Rattle.std.specs.Io.BufRead.{Rests};
 ghost use Rattle.std.specs.Io.KnownBytes.{Keeps};
@@ -89,7 +89,8 @@ pub trait Offset: Source {
 /// - It hands out the bytes of its input in their order, each once, and the offset counts exactly
 ///   those. `peek` and `ahead` hand out none; the bytes that they show are those that `next`,
 ///   `discard` or `advance` takes. `ahead` shows as many as cost nothing to show: a source that has
-///   to ask for its bytes shows none, and its `advance` takes none.
+///   to ask for its bytes shows none, and its `advance` takes none. A source that lends what `read`
+///   takes for the input's whole life shows all that is to come.
 /// - `next` and `peek` that are refused take nothing, and ask for no memory.
 /// - At the end `next` and `peek` return None. A call that wants n bytes returns
 ///   `EofWhileParsingValue` only where fewer are to come, and at the offset where they end.
@@ -100,9 +101,9 @@ pub trait Offset: Source {
 /// - Where `read_to_buffer` or `read_to_vec` is refused, what was there stays, with a prefix of
 ///   the bytes that it took after it.
 /// - The offset never passes 2^64 - 1.
-/// - Where the buffer has a greatest length, that never changes. `read_to_buffer` alone returns
-///   `ScratchTooSmall`: where the bytes are there, and joined they would be longer. Nothing has
-///   changed then, and the error has the present offset.
+/// - Where the buffer has a greatest length, that never changes, and `buffer_room` returns it.
+///   `read_to_buffer` alone returns `ScratchTooSmall`: where the bytes are there, and joined they
+///   would be longer. Nothing has changed then, and the error has the present offset.
 /// - `LengthOutOfRange` is for an input that goes on after the offset 2^64 - 1. `Io` and
 ///   `OutOfMemory` have the offset 0.
 /// - It returns no code but those that its `refusals` names; `read_to_vec` may return `OutOfMemory`
@@ -153,7 +154,8 @@ pub trait Source {
     fn ahead(&self) -> &[u8]
         ensures bytes { result.now ≡ at_hand self.now }
         ensures front { IfSome (source self.now).to_come
-            (λ bs. take (length result.now) bs ≡ result.now) };
+            (λ bs. take (length result.now) bs ≡ result.now) }
+        ensures all { lends.whole ≡ true → (source self.now).to_come ≡ Some result.now };
 
     /// Takes the next n bytes, which are available.
     fn advance(&mut self, n: usize)
@@ -180,6 +182,10 @@ pub trait Source {
     /// What was joined in the buffer.
     fn buffer(&self) -> &[u8]
         ensures { result.now ≡ (source self.now).buffer };
+
+    /// The most that the buffer holds; None where it grows.
+    fn buffer_room(&self) -> Option<usize>
+        ensures { result ≡ (source self.now).room };
 
     /// Takes n bytes, to the end of `out`. Memory is taken only for bytes that came.
     fn read_to_vec(&mut self, n: usize, out: &mut Vec<u8>) -> Result<()>

@@ -202,6 +202,10 @@ impl<'a> Source for MutSliceRead<'a> {
         &self.slice[self.start..self.start + self.joined]
     }
 
+    fn buffer_room(&self) -> Option<usize> {
+        None
+    }
+
     #[tactic(auto, using(crate::proofs::Lengthened::none_taken))]
     fn read_to_vec(&mut self, n: usize, out: &mut Vec<u8>) -> Result<()> {
         let end = self.end_of(n)?;

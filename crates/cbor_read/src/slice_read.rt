@@ -97,6 +97,10 @@ impl<'a> Source for SliceRead<'a> {
         &self.buffer
     }
 
+    fn buffer_room(&self) -> Option<usize> {
+        None
+    }
+
     #[inline(always)]
     #[tactic(auto, using(crate::proofs::Lengthened::none_taken))]
     fn read_to_vec(&mut self, n: usize, out: &mut Vec<u8>) -> Result<()> {

@@ -133,6 +133,10 @@ impl<'a, 'b> Source for SliceReadFixed<'a, 'b> {
         &self.scratch[..self.joined]
     }
 
+    fn buffer_room(&self) -> Option<usize> {
+        Some(self.scratch.len())
+    }
+
     #[tactic(auto, using(crate::proofs::Lengthened::none_taken))]
     fn read_to_vec(&mut self, n: usize, out: &mut Vec<u8>) -> Result<()> {
         let end = end_of(self.slice, self.taken, n)?;

@@ -116,6 +116,10 @@ impl Source for VecRead {
         &self.buffer
     }
 
+    fn buffer_room(&self) -> Option<usize> {
+        None
+    }
+
     #[tactic(auto, using(crate::proofs::Lengthened::none_taken))]
     fn read_to_vec(&mut self, n: usize, out: &mut Vec<u8>) -> Result<()> {
         let end = self.end_of(n)?;

@@ -112,6 +112,10 @@ impl Source for OwnBytes {
         &self.buffer
     }
 
+    fn buffer_room(&self) -> Option<usize> {
+        None
+    }
+
     #[tactic(auto, using(crate::proofs::OwnSource::none_taken))]
     fn read_to_vec(&mut self, n: usize, out: &mut Vec<u8>) -> Result<(), ReadError> {
         let end = self.end_of(n)?;
