@@ -4,7 +4,7 @@
 //! the levels.
 
 ghost use Rattle.std.specs.Prelude.{◌≡◌, ◌<◌, [], ◌∷◌, codes, length, take};
-ghost use Rattle.std.specs.Prelude.{IfOk, IfErr, IfSome, MatchOption, OnOk, OnErr};
+ghost use Rattle.std.specs.Prelude.{IfOk, IfErr, IfSome, MatchOption, Ok, OnOk, OnErr, OnSome};
 ghost use Rattle.cbor_io.specs.Error.{code_of};
 ghost use Rattle.cbor_read.specs.Source.{RefusedByte, Stays};
 ghost use Rattle.cbor_decode.specs.Decoder.{SameSettings};
@@ -132,6 +132,29 @@ pub fn variant_head<'de, R: Read<'de>>(
     ensures formats { de.new.decoder.formats ≡ de.old.decoder.formats }
 {
     cbor_decode_as::variant::variant_head(&mut de.decoder, names)
+}
+
+/// Takes an enum up to its identifier, as [`variant_head`] does, where that is at hand: a short name or
+/// a number, alone or as the key of a map of one pair, without tags. None where it isn't; then nothing
+/// is taken.
+#[inline(always)]
+pub fn variant_at_hand<R: Source>(de: &mut Deserializer<R>, names: &[&str]) -> Option<(usize, Form)>
+    ensures read { MatchOption result (de.new.decoder ≡ de.old.decoder)
+        (λ v. TakesVariant R.refusals (formats_of de.old.decoder.formats)
+        (texts names.now) de.old.decoder.levels
+        (R.source de.old.decoder.source) (R.source de.new.decoder.source)
+        de.new.decoder.levels (Ok v)) }
+    ensures taken { OnSome result (call.Advances R.source de.old de.new) }
+    ensures opened { IfSome result (λ v. TakesVariantHead R.refusals
+        (formats_of de.old.decoder.formats) (texts names.now) de.old.decoder.levels
+        (R.source de.old.decoder.source) (R.source de.new.decoder.source)
+        de.new.decoder.levels (Ok v)) }
+    ensures below { IfSome result (λ v. v.0 < length names.now) }
+    ensures inside { IfSome result (λ v. IsInside v.1 de.new.decoder.levels
+        de.old.decoder.levels) }
+    ensures formats { de.new.decoder.formats ≡ de.old.decoder.formats }
+{
+    cbor_decode_as::variant_at_hand::variant_at_hand(&mut de.decoder, names)
 }
 
 /// Takes the content of a variant of several parts up to the first of them.

@@ -6,3 +6,4 @@ pub mod VariantShapes
 pub mod VariantPairs
 pub mod VariantMaps
 pub mod VariantForms
+pub mod VariantsAtHand

@@ -8,3 +8,4 @@ pub mod ByteStrings
 pub mod ShortTexts
 pub mod Characters
 pub mod Identifiers
+pub mod ShortNames

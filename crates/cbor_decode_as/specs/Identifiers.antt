@@ -1,5 +1,5 @@
 -- What names a field of a struct, or a variant of an enum.
-use Rattle.std.specs.Prelude.{⊤, ◌≡◌, ◌≢◌, ℕ, Bool, zero, suc, List, [], ◌∷◌, length, Option, Some, None}
+use Rattle.std.specs.Prelude.{⊤, ◌≡◌, ◌≢◌, ◌⊎◌, ◌<◌, ◌+◌, ℕ, Bool, zero, suc, List, [], ◌∷◌, length, Option, Some, None}
 use Rattle.std.specs.Prelude.{nat_lt, Result, Ok, Err, if◌then◌else◌, refl}
 use Rattle.std.specs.Prelude as prelude
 use Rattle.std.specs.Borrow.{Bor}
@@ -45,6 +45,14 @@ place_of names n = if nat_lt n (length names) then Some n else None
 abbrev pub IsIdentifier : List (List ℕ) → Raw → Option ℕ → Type 0
 IsIdentifier names (raw.unsigned w n) place = place ≡ place_of names n
 IsIdentifier names r place = (b : List ℕ) × IsString r b × IsPlace names b place
+
+-- These bytes name this place, by one byte and what it counts: a number below 24, or the text of a name
+-- of up to 23 bytes.
+abbrev pub IsShortName : List (List ℕ) → List ℕ → ℕ → Type 0
+IsShortName names [] i = ⊥
+IsShortName names (b ∷ bs) i =
+    ((b < 24) × (bs ≡ []) × (place_of names b ≡ Some i))
+    ⊎ ((b ≡ 0x60 + length bs) × (length bs < 24) × IsUtf8 bs × IsFirst names bs i)
 
 -- ---- calls
 

@@ -1,6 +1,6 @@
 //! What names a field of a struct, or a variant of an enum.
 
-ghost use Rattle.std.specs.Prelude.{◌≡◌, ◌<◌, ◌≤◌, length, IfOk, IfErr, IfSome, OnOk};
+ghost use Rattle.std.specs.Prelude.{◌≡◌, ◌<◌, ◌≤◌, length, take, IfOk, IfErr, IfSome, OnOk};
 ghost use Rattle.std.specs.Str.{IsUtf8};
 ghost use Rattle.cbor_io.specs.declared.error.Error.{Error};
 ghost use Rattle.cbor_read.specs.Source.{part_bytes};
@@ -10,7 +10,7 @@ ghost use Rattle.cbor_decode.specs.Gives.{ReportsNoForm, ReportsNoKey};
 ghost use Rattle.cbor_decode.specs.declared.head.Head.TheVariants.{Bytes, Text};
 ghost use Rattle.cbor_io.specs.Error.{code_of};
 ghost use Rattle.cbor_decode_as.specs.Identifiers.{IsIdentifier, IsPlace, place_of, texts};
-ghost use Rattle.cbor_decode_as.specs.Identifiers.{IsMadeBy, NamesNoKey, NamesText};
+ghost use Rattle.cbor_decode_as.specs.Identifiers.{IsMadeBy, IsShortName, NamesNoKey, NamesText};
 ghost use Rattle.cbor_decode_as.specs.Identifiers.{TakesBytesName, TakesName};
 ghost use Rattle.cbor_decode_as.specs.Strings.{IsMadeOf, IsNoKey};
 ghost use Rattle.cbor_decode_as.specs.Takes.{OnceMade};
@@ -76,6 +76,30 @@ fn place_of_number(names: &[&str], n: u64) -> Option<usize>
         Some(n as usize)
     } else {
         None
+    }
+}
+
+// The place that the bytes begin with, as a number below 24 or a name of up to 23 bytes, and how many
+// bytes that takes.
+#[inline(always)]
+pub(crate) fn short_name(names: &[&str], bytes: &[u8]) -> Option<(usize, usize)>
+    ensures name { IfSome result (λ v. IsShortName (texts names.now) (take v.1 bytes.now) v.0) }
+    ensures within { IfSome result (λ v. v.1 ≤ length bytes.now) }
+    ensures some { IfSome result (λ v. 0 < v.1) }
+    ensures below { IfSome result (λ v. v.0 < length names.now) }
+{
+    let (head, behind) = bytes.split_first()?;
+    match *head {
+        number @ 0x00..=0x17 => {
+            let index = place_of_number(names, number as u64)?;
+            Some((index, 1))
+        }
+        head @ 0x60..=0x77 => {
+            let n = usize::from(head - 0x60);
+            let index = place(names, behind.get(..n)?)?;
+            Some((index, 1 + n))
+        }
+        _ => None,
     }
 }
 

@@ -40,11 +40,11 @@ pub enum Form {
 }
 
 /// The first byte of a map of one pair.
-const ONE_PAIR: u8 = 0xa1;
+pub(crate) const ONE_PAIR: u8 = 0xa1;
 
 // How an enum is encoded, by its first byte.
 #[derive(Clone, Copy)]
-enum Shape {
+pub(crate) enum Shape {
     Array,
     Map,
     Alone,
@@ -94,7 +94,7 @@ fn enum_shape<R: Source>(decoder: &mut Decoder<R>) -> Result<Shape>
 }
 
 // Whether enums that are encoded so are read.
-fn reads_shape<R: Source>(decoder: &Decoder<R>, shape: Shape) -> bool
+pub(crate) fn reads_shape<R: Source>(decoder: &Decoder<R>, shape: Shape) -> bool
     ensures { result ≡ reads_shape (formats_of decoder.now.formats) shape }
 {
     let formats = decoder.formats;

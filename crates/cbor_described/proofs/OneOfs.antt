@@ -12,9 +12,9 @@ use Rattle.cbor_decode.specs.Gives.{Step}
 use Rattle.cbor_decode.specs.Heads.{remaining_of}
 use Rattle.cbor_decode.specs.declared.cursor.Remaining.{Remaining}
 use Rattle.cbor_decode.specs.declared.formats.Formats.{Formats}
-use Rattle.cbor_decode.proofs.facts.Steps.{step_map, step_then}
+use Rattle.cbor_decode.proofs.facts.Steps.{step_same, step_map, step_then}
 use Rattle.cbor_decode_as.specs.Accesses.{items_at}
-use Rattle.cbor_decode_as.specs.Enums.{Content, AreParts}
+use Rattle.cbor_decode_as.specs.Enums.{Content, alone, AreParts, IsNothing}
 use Rattle.cbor_described.specs.OneOfs.{either}
 use Rattle.cbor_de.specs.ItemLists.{AreItems, AreNoItems, TakesItems}
 use Rattle.cbor_decode_as.specs.Takes.{formats_of, raws, Refuses}
@@ -43,6 +43,10 @@ module _ (f : model.Formats) (left : ℕ) (form : Form) (allowed : ReadErrorCode
   -- where nothing has a meaning
   pub no_meaning : {A : Type 0} (e : Error) → TookSome s t → TakesContent {A = A} allowed f (λ c x. ⊥) left form s t (Err e)
   no_meaning e took = record { took = took; reported = λ bs reports. inr (λ x rest got. got.meaning) }
+
+-- An identifier alone has no part, and nothing of it is left to take.
+pub nothing_alone : (f : model.Formats) (left : ℕ) (s : Input) (allowed : ReadErrorCode → Bool) → TakesContent allowed f IsNothing left form.Alone s s (Ok tt)
+nothing_alone f left s allowed = step_same s (λ l bs rest. IsContent IsNothing (content_at f l left form.Alone bs) tt rest) (λ l bs. record { content = alone; is = refl; meaning = tt })
 
 -- the variants
 module _ {V W : Type 0} (this : Content → V → Type 0) (those : ℕ → Content → W → Type 0) where

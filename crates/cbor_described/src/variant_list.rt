@@ -1,6 +1,6 @@
 //! Lists of variants, of which enums are read.
 
-ghost use Rattle.std.specs.Prelude.{◌≡◌, IfErr, OnOk};
+ghost use Rattle.std.specs.Prelude.{◌≡◌, IfErr, MatchOption, Ok, OnOk};
 ghost use Rattle.cbor_decode.specs.Decoder.{SameSettings};
 ghost use Rattle.cbor_decode_as.specs.Enums.{IsEnum};
 ghost use Rattle.cbor_decode_as.specs.Identifiers.{texts};
@@ -11,9 +11,9 @@ ghost use Rattle.cbor_de.specs.Forms.{MayReportContent, any_of, enum_form};
 ghost use Rattle.cbor_de.specs.Calls as call;
 
 use crate::parts::{ReadParts, ReadableParts};
-use cbor_de::steps::{leave_to, no_part, parts, variant_head};
+use cbor_de::steps::{leave_to, no_part, parts, variant_at_hand, variant_head};
 use cbor_de::{
-    Deserialize, Deserializer, Form, Read, ReadTuple, Readable, ReadableTuple, one_part,
+    Deserialize, Deserializer, Form, Read, ReadTuple, Readable, ReadableTuple, Source, one_part,
 };
 use cbor_io::error::{Error, Result};
 use cbor_parts::{FieldNames, Newtype, Struct, Tuple};
@@ -36,6 +36,22 @@ pub trait Variant: Sized + Drop {
 
     // How an identifier alone is refused, if it is.
     ghost alone: { Form → Error → Type 0 };
+
+    /// Reads the content of a variant, after its identifier, where it is at hand, without room for an
+    /// error. None where it isn't, and for some kinds always; then nothing is taken.
+    #[inline(always)]
+    fn content_at_hand<R: Source>(de: &mut Deserializer<R>, form: Form) -> Option<Self>
+        ensures read { MatchOption result
+            (R.source de.new.decoder.source ≡ R.source de.old.decoder.source)
+            (λ x. TakesContent R.refusals (formats_of de.old.decoder.formats)
+            (means (context de.old.decoder.formats R.lends)) de.old.decoder.levels form
+            (R.source de.old.decoder.source) (R.source de.new.decoder.source) (Ok x)) }
+        ensures settings { SameSettings de.old.decoder de.new.decoder }
+    {
+        let _ = de;
+        let _ = form;
+        None
+    }
 }
 
 /// A variant that is read from a source.
@@ -60,6 +76,14 @@ impl Variant for () {
     ghost wrong_forms = { unit_form };
 
     ghost alone = { λ form e. Unit {0} };
+
+    #[inline(always)]
+    fn content_at_hand<R: Source>(_de: &mut Deserializer<R>, form: Form) -> Option<()> {
+        match form {
+            Form::Alone => Some(()),
+            _ => None,
+        }
+    }
 }
 
 impl<'de, R: Read<'de>> ReadVariant<'de, R> for () {
@@ -79,6 +103,17 @@ impl<T: Readable> Variant for Newtype<T> {
     ghost wrong_forms = { any_of part_form T.wrong_forms };
 
     ghost alone = { ReportsAlone (alone_text (codes "newtype")) };
+
+    #[inline(always)]
+    fn content_at_hand<R: Source>(de: &mut Deserializer<R>, form: Form) -> Option<Newtype<T>> {
+        match form {
+            Form::Map => match T::at_hand(de) {
+                Some(part) => Some(Newtype(part)),
+                None => None,
+            },
+            _ => None,
+        }
+    }
 }
 
 impl<'de, R: Read<'de>, T: Deserialize<'de, R>> ReadVariant<'de, R> for Newtype<T> {
@@ -200,6 +235,16 @@ pub(crate) trait VariantList: Sized + Drop {
 
     // By which codes an enum may be refused for the form of the content of one of them, and where.
     ghost wrong_forms: { WrongForms };
+
+    // Reads the content of the i-th variant where it is at hand, without room for an error. Else
+    // nothing is taken.
+    fn variant_at_hand<R: Source>(de: &mut Deserializer<R>, form: Form, i: usize) -> Option<Self>
+        ensures read { MatchOption result
+            (R.source de.new.decoder.source ≡ R.source de.old.decoder.source)
+            (λ x. TakesContent R.refusals (formats_of de.old.decoder.formats)
+            (means (context de.old.decoder.formats R.lends) i) de.old.decoder.levels form
+            (R.source de.old.decoder.source) (R.source de.new.decoder.source) (Ok x)) }
+        ensures settings { SameSettings de.old.decoder de.new.decoder };
 }
 
 // The variants of an enum, which are read from a source.
@@ -220,6 +265,15 @@ impl VariantList for Never {
     ghost means = { λ c i content x. ⊥ };
 
     ghost wrong_forms = { never };
+
+    #[inline(always)]
+    fn variant_at_hand<R: Source>(
+        _de: &mut Deserializer<R>,
+        _form: Form,
+        _i: usize,
+    ) -> Option<Never> {
+        None
+    }
 }
 
 impl<'de, R: Read<'de>> ReadVariants<'de, R> for Never {
@@ -235,6 +289,24 @@ impl<V: Variant, Vs: VariantList> VariantList for OneOf<V, Vs> {
     ghost means = { λ c. either (V.means c) (Vs.means c) };
 
     ghost wrong_forms = { any_of V.wrong_forms Vs.wrong_forms };
+
+    #[inline(always)]
+    fn variant_at_hand<R: Source>(
+        de: &mut Deserializer<R>,
+        form: Form,
+        i: usize,
+    ) -> Option<OneOf<V, Vs>> {
+        if i != 0 {
+            return match Vs::variant_at_hand(de, form, i - 1) {
+                Some(other) => Some(OneOf::Other(other)),
+                None => None,
+            };
+        }
+        match V::content_at_hand(de, form) {
+            Some(this) => Some(OneOf::This(this)),
+            None => None,
+        }
+    }
 }
 
 impl<'de, R: Read<'de>, V: ReadVariant<'de, R>, Vs: ReadVariants<'de, R>> ReadVariants<'de, R>
@@ -272,7 +344,47 @@ pub(crate) fn read_variants<'de, R: Read<'de>, E: ReadVariants<'de, R>>(
 }
 
 // Reads the variant, and leaves any number of levels.
+#[inline(always)]
 fn variants_within<'de, R: Read<'de>, E: ReadVariants<'de, R>>(
+    de: &mut Deserializer<R>,
+    names: &[&str],
+) -> Result<E>
+    ensures read { call.TakesItem R.source R.refusals
+        (PassesTags (IsEnum (formats_of de.old.decoder.formats) (texts names.now)
+        (E.means (context de.old.decoder.formats R.lends)))) de.old de.new result }
+    ensures taken { OnOk result (call.Advances R.source de.old de.new) }
+    ensures form { IfErr result (call.MayReport R.source (any_of enum_form E.wrong_forms) de.old) }
+    ensures formats { de.new.decoder.formats ≡ de.old.decoder.formats }
+{
+    match variant_at_hand(de, names) {
+        Some((index, form)) => content::<R, E>(de, form, index),
+        None => variants_slow::<R, E>(de, names),
+    }
+}
+
+// Reads the content of the i-th variant. It may leave fewer levels.
+#[inline(always)]
+fn content<'de, R: Read<'de>, E: ReadVariants<'de, R>>(
+    de: &mut Deserializer<R>,
+    form: Form,
+    i: usize,
+) -> Result<E>
+    ensures read { TakesContent R.refusals (formats_of de.old.decoder.formats)
+        (E.means (context de.old.decoder.formats R.lends) i) de.old.decoder.levels form
+        (R.source de.old.decoder.source) (R.source de.new.decoder.source) result }
+    ensures form { IfErr result (MayReportContent E.wrong_forms
+        (formats_of de.old.decoder.formats) form (R.source de.old.decoder.source)) }
+    ensures formats { de.new.decoder.formats ≡ de.old.decoder.formats }
+{
+    match E::variant_at_hand(de, form, i) {
+        Some(read) => Ok(read),
+        None => E::read_variant(de, form, i),
+    }
+}
+
+// Reads the variant where its head isn't at hand.
+#[inline(never)]
+fn variants_slow<'de, R: Read<'de>, E: ReadVariants<'de, R>>(
     de: &mut Deserializer<R>,
     names: &[&str],
 ) -> Result<E>

@@ -82,7 +82,7 @@ module _ (f : Formats) (names : List (List ℕ)) (l : Limits) (left : ℕ) where
   whole_of k (Err e) = refl
 
   -- the head of the enum, after its key
-  pair_here : (bs mid rest : List ℕ) (i : ℕ) → f.standard_enums ≡ true → key_front f bs ≡ Ok (tt, mid) → IsRead (IsName names) (item_at (raws f l) left mid) i rest
+  pub pair_here : (bs mid rest : List ℕ) (i : ℕ) → f.standard_enums ≡ true → key_front f bs ≡ Ok (tt, mid) → IsRead (IsName names) (item_at (raws f l) left mid) i rest
       → IsVariantHead f names l (item_at (raws f l) (suc left) (0xa1 ∷ bs)) left i form.Map rest
   unfolding map_whole
   pair_here bs mid rest i standard front name =

@@ -72,7 +72,7 @@ number_place ns n = ap (λ (k : ℕ). if nat_lt n k then Some n else None) (leng
 
 module _ (names : List (List ℕ)) where
   -- a string of a name is an identifier
-  string_names : (r : Raw) (b : List ℕ) (place : Option ℕ) → IsString r b → IsPlace names b place → IsIdentifier names r place
+  pub string_names : (r : Raw) (b : List ℕ) (place : Option ℕ) → IsString r b → IsPlace names b place → IsIdentifier names r place
   string_names (raw.unsigned w n) b place is at = absurd is
   string_names (raw.negative w n) b place is at = absurd is
   string_names (raw.bytes c) b place is at = (b, is, at)

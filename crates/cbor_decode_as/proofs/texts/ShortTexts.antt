@@ -20,7 +20,7 @@ use Rattle.cbor_decode_as.proofs.texts.Lending.{hand_step}
 -- ---- the input between a head of one byte and its content
 
 module _ (s t : Input) (head : ℕ) (content : List ℕ) (took : TookKept s t (head ∷ content)) where
-  abbrev between : Input
+  abbrev pub between : Input
   between = record { to_come = prepend_known content t.to_come; buffer = s.buffer; offset = s.offset + 1; room = s.room }
 
   first : (x y : Option (List ℕ)) → Consumes x y (head ∷ content) → Consumes x (prepend_known content y) (head ∷ [])
@@ -32,10 +32,10 @@ module _ (s t : Input) (head : ℕ) (content : List ℕ) (took : TookKept s t (h
   others None = tt
   others (Some ys) = refl
 
-  head_took : TookKept s between (head ∷ [])
+  pub head_took : TookKept s between (head ∷ [])
   head_took = record { bytes = first s.to_come t.to_come took.bytes; count = refl; room = refl; kept = refl }
 
-  content_took : TookKept between t content
+  pub content_took : TookKept between t content
   content_took = record { bytes = others t.to_come; count = omega (arith, took.count); room = took.room; kept = took.kept }
 
 -- ---- the text
