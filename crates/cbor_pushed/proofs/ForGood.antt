@@ -1,23 +1,26 @@
 -- What is refused is refused whatever is added.
-use Rattle.std.proofs.Common.{◌≡◌, ◌≢◌, ◌∙◌, ◌<◌, ◌≤◌, ◌^◌, ℕ, List, [], ◌∷◌, ◌++◌, length, drop, None, refl, sym, ap, subst, arith, inl, inr}
+use Rattle.std.proofs.Common.{◌≡◌, ◌≢◌, ◌∙◌, ◌-◌, ◌<◌, ◌≤◌, ◌^◌, ℕ, List, [], ◌∷◌, ◌++◌, length, drop, None, refl, sym, ap, subst, arith, inl, inr}
 use Rattle.std.proofs.lemmas.Bool.{cases_lt}
-use Rattle.std.proofs.lemmas.List.{append_assoc, length-append}
-use Rattle.cbor_model.specs.Acceptable.{max_depth}
+use Rattle.std.proofs.lemmas.List.{append-nil, append_assoc, length-append}
+use Rattle.cbor_model.specs.Acceptable.{IsAcceptableWithin}
 use Rattle.cbor_model.specs.Allowed.{AreFirst, IsAllowed, IsEnd, StandsAt}
 use Rattle.cbor_model.specs.Raw.{Raw}
-use Rattle.cbor_model.specs.RawReader.{Begins}
+use Rattle.cbor_model.specs.Reader.{item_at, whole}
 use Rattle.cbor_model.specs.Refusal.{Refusal, end_in_value, end_in_array, end_in_map}
 use Rattle.cbor_model.specs.Refusal.{length_out_of_range, invalid_utf8, unassigned_code}
 use Rattle.cbor_model.specs.Refusal.{unexpected_code, trailing_data, too_deep, scratch_too_small}
 use Rattle.cbor_model.specs.Refusal.{wrong_struct_format}
 use Rattle.cbor_model.specs.Spelling.{spell}
 use Rattle.cbor_model.specs.Value.{value}
-use Rattle.cbor_model.proofs.facts.Refusals.{spelled_allows_none}
+use Rattle.cbor_model.proofs.facts.Reader.{value_again}
+use Rattle.cbor_model.proofs.reader.Bytes.{spelled_bytes}
+use Rattle.cbor_model.proofs.refusals.FirstRefusal.{none_refused}
 use Rattle.cbor_io.specs.declared.error.Category.TheVariants as category
 use Rattle.cbor_io.specs.declared.error.Error.{Error}
 use Rattle.cbor_io.specs.Error.{category_of, code_of}
 use Rattle.cbor_decode.specs.FirstRefusal.{ReportsFirst, refusal_code}
-use Rattle.cbor_pushed.specs.ItemAtFront.{item_limits}
+use Rattle.cbor_pushed.specs.ItemAtFront.{HasNoItem, item_limits}
+use Rattle.cbor_pushed.specs.Rests.{reading}
 
 -- ---- lists
 
@@ -25,7 +28,7 @@ first_are : (a x : ℕ) (us xs : List ℕ) → a ∷ us ≡ x ∷ xs → (a ≡ 
 first_are a x us xs e = (cc, cc)
 
 -- the shorter of two fronts of a list is a front of the other
-is_front : (us bs xs ys : List ℕ) → us ++ bs ≡ xs ++ ys → length us ≤ length xs → xs ≡ us ++ drop (length us) xs
+pub is_front : (us bs xs ys : List ℕ) → us ++ bs ≡ xs ++ ys → length us ≤ length xs → xs ≡ us ++ drop (length us) xs
 is_front [] bs xs ys e le = refl
 is_front (a ∷ us) bs [] ys e le = absurd (omega arith)
 is_front (a ∷ us) bs (x ∷ xs) ys e le =
@@ -87,12 +90,23 @@ end_category end_in_array is = refl
 end_category end_in_map is = refl
 end_category _ is = absurd is
 
+-- the bytes of an acceptable item allow none
+spelled_allows_none : (levels : ℕ) (item : Raw) → IsAcceptableWithin levels item → length (spell item) < 2 ^ 64
+    → (why : Refusal) (place offset : ℕ) → IsAllowed (item_limits levels) (spell item) why place offset → ⊥
+spelled_allows_none levels item acceptable short why place offset allowed =
+    let bs = spell item in
+    let total = length bs in
+    let within : length (bs ++ []) ≤ total = omega (arith, length-append {A = ℕ} bs []) in
+    let read = ap (item_at (reading total) levels) (sym (append-nil bs)) ∙ value_again levels total None item [] short within tt acceptable in
+    let start : total - length bs ≡ 0 = omega arith in
+    none_refused None total levels bs (value item) (omega arith) (spelled_bytes item acceptable.fits) (ap whole read) why place offset
+    (subst (λ (n : ℕ). IsAllowed (record { start = n; levels = levels; scratch = None }) bs why place offset) (sym start) allowed)
+
 -- no acceptable item begins with bytes that allow a refusal other than that they end, where none is
 -- at their front
-pub for_good : (bytes : List ℕ) (e : Error) → ReportsFirst (item_limits max_depth) bytes e → category_of (code_of e) ≢ category.Eof
-    → ((item : Raw) (rest : List ℕ) → Begins max_depth bytes item rest → ⊥)
-    → (more : List ℕ) (item : Raw) (rest : List ℕ) → length (bytes ++ more) < 2 ^ 64 → Begins max_depth (bytes ++ more) item rest → ⊥
-for_good bytes e first no_end none more item rest short begins =
+pub for_good : (levels : ℕ) (bytes : List ℕ) (e : Error) → ReportsFirst (item_limits levels) bytes e → category_of (code_of e) ≢ category.Eof
+    → HasNoItem levels bytes → (more : List ℕ) → length (bytes ++ more) < 2 ^ 64 → HasNoItem levels (bytes ++ more)
+for_good levels bytes e first no_end none more short item rest begins =
     elim (cases_lt (length bytes) (length (spell item))) [
       | inl longer ↦ within longer
       | inr shorter ↦
@@ -108,7 +122,6 @@ for_good bytes e first no_end none more item rest short begins =
         let behind = drop (length bytes) (spell item) in
         let parts : spell item ≡ bytes ++ behind = is_front bytes more (spell item) rest begins.spelled (omega arith) in
         let fits : length (spell item) < 2 ^ 64 = omega (arith, ap length begins.spelled, length-append (spell item) rest) in
-        let allowed = allowed_more bytes behind max_depth first.why first.first.place first.offset other first.first.allowed in
-        spelled_allows_none None (spell item) (value item) fits (record { item = item; acceptable = begins.acceptable; spelled = refl; valued = refl }) tt
-        first.why first.first.place first.offset
-        (subst (λ (l : List ℕ). IsAllowed (item_limits max_depth) l first.why first.first.place first.offset) (sym parts) allowed)
+        let allowed = allowed_more bytes behind levels first.why first.first.place first.offset other first.first.allowed in
+        spelled_allows_none levels item begins.acceptable fits first.why first.first.place first.offset
+        (subst (λ (l : List ℕ). IsAllowed (item_limits levels) l first.why first.first.place first.offset) (sym parts) allowed)

@@ -8,3 +8,4 @@ pub mod Found
 pub mod ForGood
 pub mod Told
 pub mod Pushed
+pub mod facts

@@ -1,5 +1,6 @@
 -- More bytes behind those that were gone through.
-use Rattle.std.proofs.Common.{◌≡◌, ◌∙◌, ◌<◌, ◌≤◌, ◌+◌, ◌^◌, ℕ, Bool, true, false, cond, List, ◌++◌, length, drop, Option, Some, None, Result, Ok, Err, IfOk, IfSome, sym, ap, subst, arith, inl, inr}
+use Rattle.std.proofs.Common.{◌≡◌, ◌∙◌, ◌<◌, ◌≤◌, ◌+◌, ◌^◌, ℕ, Bool, true, false, cond, List, [], ◌∷◌, ◌++◌, length, drop, Option, Some, None, Result, Ok, Err, IfOk, IfSome, refl, sym, ap, subst, arith, inl, inr}
+use Rattle.std.proofs.lemmas.Bool.{cases_lt}
 use Rattle.std.proofs.lemmas.List.{append_assoc, length-append, drop-append-le}
 use Rattle.cbor_model.specs.Reader.{item_at}
 use Rattle.cbor_model.specs.Spelling.{spell}
@@ -7,10 +8,12 @@ use Rattle.cbor_model.proofs.facts.Reader.{taken}
 use Rattle.cbor_io.specs.declared.error.Error.{Error}
 use Rattle.cbor_decode.specs.Heads.{passed}
 use Rattle.cbor_decode.proofs.facts.Steps.{passed_was}
-use Rattle.cbor_pushed.specs.ItemAtFront.{FindsItem, HasItem}
+use Rattle.cbor_pushed.specs.ItemAtFront.{FindsItem, HasItem, HasNoItem}
 use Rattle.cbor_pushed.specs.Rests.{all_at, reading}
-use Rattle.cbor_pushed.specs.Scanned.{ChunksPassed, InChunks, Stands, chunks_to}
+use Rattle.cbor_pushed.specs.Scanned.{ChunksPassed, Follows, InChunks, Stands, chunks_to}
 use Rattle.cbor_pushed.specs.declared.rest.Rest.{Rest}
+use Rattle.cbor_pushed.specs.declared.scan.Scan.{Scan}
+use Rattle.cbor_pushed.proofs.ForGood.{is_front}
 use Rattle.cbor_pushed.proofs.Standing.{passed_again}
 
 in_chunks_more : (major n : ℕ) (bs piece : List ℕ) → InChunks major n bs → InChunks major n (bs ++ piece)
@@ -57,6 +60,10 @@ module _ (levels at chunks : ℕ) (innermost : Rest) (around : List Rest) where
   pushed_stands false start old new piece is within s =
       (omega (arith, within, ap length is), subst (λ (l : List ℕ). Stands levels at chunks innermost around (drop start l)) (sym is) s)
 
+-- a scan stands where it stood
+pub follows_more : (levels : ℕ) (scan : Scan) (front piece : List ℕ) → Follows levels scan front → Follows levels scan (front ++ piece)
+follows_more levels scan = stands_more levels scan.at scan.chunks scan.innermost scan.around.items
+
 -- an item has a byte at the least
 item_within : (levels : ℕ) (front : List ℕ) (n : ℕ) → length front < 2 ^ 64 → HasItem levels front n → (0 < n) × (n ≤ length front)
 item_within levels front n short h =
@@ -73,3 +80,19 @@ pub found_within : (levels : ℕ) (front : List ℕ) (r : Result (Option ℕ) Er
 found_within levels front (Ok (Some n)) short h = item_within levels front n short h
 found_within levels front (Ok None) short h = tt
 found_within levels front (Err e) short h = tt
+
+-- no item has no byte
+pub none_of_none : (levels : ℕ) → HasNoItem levels []
+none_of_none levels item rest begins =
+    let within = item_within levels [] (length (spell item)) (omega arith) (record { item = item; rest = rest; begins = begins; ends = refl }) in
+    absurd (omega (arith, within.0, within.1))
+
+-- an item that the last byte makes whole ends there
+pub ends_last : (levels b end : ℕ) (front : List ℕ) → HasNoItem levels front → HasItem levels (front ++ (b ∷ [])) end → end ≡ length (front ++ (b ∷ []))
+ends_last levels b end front none h =
+    elim (cases_lt (length front) end) [
+      | inl longer ↦ omega (arith, longer, h.ends, ap length h.begins.spelled, length-append (spell h.item) h.rest, length-append front (b ∷ []))
+      | inr shorter ↦
+          absurd (none h.item (drop (length (spell h.item)) front)
+          (record { spelled = is_front (spell h.item) h.rest front (b ∷ []) (sym h.begins.spelled) (omega (arith, shorter, h.ends)); acceptable = h.begins.acceptable }))
+    ]

@@ -22,6 +22,10 @@ pub record HasItem (levels : ℕ) (bytes : List ℕ) (end : ℕ) : Type 0 where
   pub begins : Begins levels bytes item rest
   pub ends : end ≡ length (spell item)
 
+-- No acceptable item stands at the front of the bytes.
+abbrev pub HasNoItem : ℕ → List ℕ → Type 0
+HasNoItem levels bytes = (item : Raw) (rest : List ℕ) → ¬ (Begins levels bytes item rest)
+
 -- More bytes are wanted: the first refusal that these allow is that they end, and no acceptable item
 -- stands at the front of them.
 pub record IsUnfinished (levels : ℕ) (bytes : List ℕ) : Type 0 where
@@ -29,15 +33,15 @@ pub record IsUnfinished (levels : ℕ) (bytes : List ℕ) : Type 0 where
   pub offset : ℕ
   pub ends : IsEnd why
   pub first : IsFirstRefusal (item_limits levels) bytes why offset
-  pub no_item : (item : Raw) (rest : List ℕ) → ¬ (Begins levels bytes item rest)
+  pub no_item : HasNoItem levels bytes
 
 -- The error is the first refusal that the bytes allow, and not that they end; and no acceptable
 -- item stands at the front of them, whatever is added.
 pub record IsRefused (levels : ℕ) (bytes : List ℕ) (e : Error) : Type 0 where
   pub first : ReportsFirst (item_limits levels) bytes e
   pub no_end : category_of (code_of e) ≢ category.Eof
-  pub for_good : (more : List ℕ) (item : Raw) (rest : List ℕ) → length (bytes ++ more) < 2 ^ 64
-      → ¬ (Begins levels (bytes ++ more) item rest)
+  pub for_good : (more : List ℕ) → length (bytes ++ more) < 2 ^ 64
+      → HasNoItem levels (bytes ++ more)
 
 -- Where the item at the front ends; none while it isn't whole; or why none is there.
 abbrev pub FindsItem : ℕ → List ℕ → Result (Option ℕ) Error → Type 0

@@ -9,6 +9,9 @@ use std::alloc::Global;
 use std::fmt;
 use std::marker::Model;
 
+// How many arrays, maps and tags may stand inside one another.
+const LEVELS: usize = 127;
+
 /// Items one after the other (a CBOR sequence, RFC 8742) whose bytes come in pieces, as from a
 /// socket.
 ///
@@ -147,7 +150,8 @@ impl PushedItems {
         // The item is among the bytes, and has one at the least.
         ensures within { IfOk result (λ o. IfSome o (λ n. (0 < n) × (n ≤ length self.old))) }
     {
-        self.scan.find(self.alloc, &self.pushed[self.taken..])
+        self.scan
+            .find(self.alloc, &self.pushed[self.taken..], LEVELS)
     }
 
     /// Takes the first n of the bytes, or all where there are fewer.

@@ -1,14 +1,17 @@
 //! One item, as a decoder passes over it.
 
-ghost use Rattle.std.specs.Prelude.{◌≡◌, ◌≤◌, [], length, None};
+ghost use Rattle.std.specs.Prelude.{◌≡◌, ◌⊎◌, ◌≤◌, [], length, None};
 ghost use Rattle.cbor_model.specs.Formats.{all_formats};
+ghost use Rattle.cbor_io.specs.Error.{IsOutOfMemory};
 ghost use Rattle.cbor_read.specs.Source.{slice_input};
 ghost use Rattle.cbor_read.specs.Sources.{input_of_slice};
 ghost use Rattle.cbor_decode.specs.Decoder.{formats_of};
+ghost use Rattle.cbor_decode.specs.FirstRefusal.{ReportsFirst};
+ghost use Rattle.cbor_pushed.specs.ItemAtFront.{HasNoItem, item_limits};
 ghost use Rattle.cbor_pushed.specs.Scanned.{EndsAt};
 
 use cbor_decode::Decoder;
-use cbor_io::error::Result;
+use cbor_io::error::{Error, Result};
 use cbor_read::{Offset, SliceRead, Source};
 use std::alloc::Global;
 
@@ -21,6 +24,23 @@ pub(crate) fn item_end(alloc: Global, bytes: &[u8], at: usize, levels: usize) ->
     match decoder.skip() {
         Ok(()) => Ok(decoder.source.byte_offset()),
         Err(refused) => Err(decoder.error(refused)),
+    }
+}
+
+/// The error of reading bytes that end before their item does, which may have so many levels: its
+/// code says whether a value, an array or a map was cut off.
+///
+/// ```rust
+/// assert!(rt; end_of_input(alloc, b"\x9f\x01", 127).is_eof());
+/// ```
+pub fn end_of_input(alloc: Global, bytes: &[u8], levels: usize) -> Error
+    requires { HasNoItem levels bytes.now }
+    ensures { IsOutOfMemory result ⊎ ReportsFirst (item_limits levels) bytes.now result }
+{
+    match item_end(alloc, bytes, 0, levels) {
+        // none is there
+        Ok(_) => unreachable!(),
+        Err(error) => error,
     }
 }
 

@@ -1,7 +1,6 @@
 //! How far the item at the front of bytes was gone through.
 
 ghost use Rattle.std.specs.Prelude.{◌≡◌, ◌⊎◌, ℕ, List};
-ghost use Rattle.cbor_model.specs.Acceptable.{max_depth};
 ghost use Rattle.cbor_pushed.specs.ItemAtFront.{FindsItem};
 ghost use Rattle.cbor_pushed.specs.Scanned.{BeginsBy, Follows, IsDue, Left, Steps};
 
@@ -12,9 +11,6 @@ use crate::rest::Rest;
 use cbor_decode::Remaining;
 use cbor_io::error::{Error, Result};
 use std::alloc::Global;
-
-// How many arrays, maps and tags may stand inside one another.
-const LEVELS: usize = 127;
 
 /// What a step did.
 #[derive(Clone, Copy)]
@@ -27,12 +23,18 @@ pub(crate) enum Step {
     Unfinished,
 }
 
-/// How far the item at the front was gone through: whole heads, strings and chunks.
+/// How far the item at the front of bytes was gone through: whole heads, strings and chunks.
 ///
 /// What was passed is not looked at again when bytes are added, but for the strings in chunks, each
 /// of which is once more when its break has come.
+///
+/// ```rust
+/// let mut scan = Scan::new(alloc);
+/// assert_eq!(rt; scan.find(alloc, b"\x82\x01", 127)?, None);
+/// assert_eq!(rt; scan.find(alloc, b"\x82\x01\x02\x03", 127)?, Some(3));
+/// ```
 #[derive(Drop)]
-pub(crate) struct Scan {
+pub struct Scan {
     at: usize,
     // How many bytes behind that were passed of a string in chunks.
     chunks: usize,
@@ -43,8 +45,8 @@ pub(crate) struct Scan {
 }
 
 impl Scan {
-    /// Nothing was passed.
-    pub(crate) fn new(alloc: Global) -> Scan
+    /// Nothing was passed. No memory is taken.
+    pub fn new(alloc: Global) -> Scan
         ensures { (levels : ℕ) (front : List ℕ) → Follows levels result front }
     {
         Scan {
@@ -161,14 +163,18 @@ impl Scan {
         }
     }
 
-    /// Goes on as far as the bytes do: where the item ends; None while it isn't whole.
-    pub(crate) fn find(&mut self, alloc: Global, front: &[u8]) -> Result<Option<usize>>
-        requires { Follows max_depth self.old front.now }
-        ensures stands { Follows max_depth self.new front.now }
-        ensures found { FindsItem max_depth front.now result }
+    /// Goes on as far as the bytes do: where the item ends, which may have so many levels; None
+    /// while it isn't whole.
+    ///
+    /// The bytes are those of the call before, with others behind them or none, and the levels are
+    /// the same. A refusal is for good; `OutOfMemory` alone isn't: the call may be made again.
+    pub fn find(&mut self, alloc: Global, front: &[u8], levels: usize) -> Result<Option<usize>>
+        requires { Follows levels self.old front.now }
+        ensures stands { Follows levels self.new front.now }
+        ensures found { FindsItem levels front.now result }
     {
         'steps: loop {
-            match self.step(alloc, front, LEVELS) {
+            match self.step(alloc, front, levels) {
                 Ok(Step::Went) => {}
                 Ok(Step::Whole) => return Ok(Some(self.at)),
                 Ok(Step::Unfinished) => return Ok(None),

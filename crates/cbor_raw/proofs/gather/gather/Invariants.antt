@@ -1,0 +1,17 @@
+use Rattle.std.proofs.Common.{◌-◌, ◌^◌}
+use Rattle.cbor_read.specs.Source.{TookKept}
+use Rattle.cbor_decode.specs.Decoder.{SameSettings}
+use Rattle.cbor_pushed.specs.ItemAtFront.{HasNoItem}
+use Rattle.cbor_pushed.specs.Scanned.{Follows}
+use Rattle.cbor_raw.proofs.gather.gather.Given as goal
+
+abbrev pub invariant-bytes : goal.invariant-bytes
+invariant-bytes g l = record {
+  took : TookKept (g.R.Source.source l.fn.decoder.source) (g.R.Source.source l.decoder.source) l.bytes.items;
+  settings : SameSettings l.fn.decoder l.decoder;
+  follows : Follows l.levels l.scan l.bytes.items;
+  none : HasNoItem l.levels l.bytes.items;
+}
+
+abbrev pub decreases-bytes : goal.decreases-bytes
+decreases-bytes g l = 2 ^ 64 - (g.R.Source.source l.decoder.source).offset
