@@ -9,6 +9,7 @@ pub mod Alike
 pub mod Every
 pub mod Values
 pub mod OfValues
+pub mod RawValues
 pub mod facts
 pub mod UnreadMemory
 pub mod Forms

@@ -8,6 +8,7 @@ mod ignored;
 mod maps;
 mod numbers;
 mod option;
+mod raw;
 mod sequences;
 mod sets;
 mod simple;

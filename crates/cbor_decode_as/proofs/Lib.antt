@@ -5,4 +5,5 @@ pub mod arrays
 pub mod maps
 pub mod enums
 pub mod refused
+pub mod RawItems
 pub mod facts

@@ -14,6 +14,7 @@ pub mod Kinds
 pub mod MapAccesses
 pub mod Maps
 pub mod Nulls
+pub mod RawItems
 pub mod Scalars
 pub mod Strings
 pub mod TaggedHeads

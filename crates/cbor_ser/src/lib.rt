@@ -22,6 +22,7 @@ use std::alloc::Global;
 
 mod collection;
 mod described;
+mod encoded;
 mod field;
 mod fields;
 mod impls;

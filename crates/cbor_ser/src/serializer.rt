@@ -421,7 +421,7 @@ impl<W: Write> Serializer<W> {
     }
 
     // Appends a piece.
-    fn write_piece(&mut self, piece: &[u8]) -> Result<()>
+    pub(crate) fn write_piece(&mut self, piece: &[u8]) -> Result<()>
         ensures { (part : Part) → Spells self.old.settings part piece.now →
             Serialized W.written W.refuses W.references W.capacity self.old part self.new result }
     {

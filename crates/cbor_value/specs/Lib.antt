@@ -3,6 +3,7 @@ pub mod Floats
 pub mod Lending
 pub mod Lookup
 pub mod Pointer
+pub mod RawBytes
 pub mod Rows
 pub mod Search
 pub mod Shortest

@@ -21,6 +21,7 @@ mod memory;
 mod order;
 mod pairs;
 mod pointer;
+pub mod raw_value;
 mod shortest;
 
 /// A float as it was read: its width, and its bits by IEEE 754. [`to_f64`](Float::to_f64) is the

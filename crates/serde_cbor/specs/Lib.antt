@@ -12,6 +12,7 @@ pub use Rattle.cbor_model.specs.InMemory
 pub use Rattle.cbor_model.specs.FiniteMap
 pub use Rattle.cbor_model.specs.Refusal
 pub use Rattle.cbor_model.specs.Reader
+pub use Rattle.cbor_model.specs.Encoding
 pub use Rattle.cbor_model.specs.Wanted
 pub use Rattle.cbor_model.specs.Allowed
 pub use Rattle.cbor_model.specs.Laws
@@ -36,6 +37,7 @@ pub use Rattle.cbor_value.specs.Search
 pub use Rattle.cbor_value.specs.Contents
 pub use Rattle.cbor_value.specs.Lookup
 pub use Rattle.cbor_value.specs.Pointer
+pub use Rattle.cbor_value.specs.RawBytes
 pub use Rattle.cbor_value.specs.Lending
 pub use Rattle.cbor_value.specs.Rows
 pub use Rattle.cbor_decode.specs.Decoder
@@ -45,6 +47,8 @@ pub use Rattle.cbor_decode.specs.Memory
 pub use Rattle.cbor_decode.specs.FirstRefusal
 pub use Rattle.cbor_pushed.specs.ItemAtFront
 pub use Rattle.cbor_decode_as.specs.Takes
+pub use Rattle.cbor_decode_as.specs.RawItems
+pub use Rattle.cbor_raw.specs.Gathered
 pub use Rattle.cbor_de.specs.Calls
 pub use Rattle.cbor_de.specs.Access
 pub use Rattle.cbor_de.specs.Whole
@@ -133,4 +137,5 @@ pub use Rattle.cbor_round_trip.specs.Sequences
 pub use Rattle.cbor_round_trip.specs.Filled
 pub use Rattle.cbor_round_trip.specs.StreamedItems
 pub use Rattle.cbor_round_trip.specs.Nesting
+pub use Rattle.cbor_round_trip.specs.NoChunks
 pub use Rattle.cbor_round_trip.specs.Said

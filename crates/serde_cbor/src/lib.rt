@@ -16,7 +16,8 @@
 //! - [`value`]: `Value`, `Map`, `Float`, and the way between a value and a type
 //! - [`parts`]: the description by which a struct or an enum of yours is read and written;
 //!   [`round_trip`]: the law that it is read back
-//! - [`bytes`], [`tags`]: byte strings and tags as types
+//! - [`bytes`], [`tags`]: byte strings and tags as types; [`RawValue`], [`RawSlice`]: items that
+//!   aren't decoded, as their bytes
 //! - [`cbor!`](crate::cbor): a value as a literal
 //! - [`error`]; [`read`] and [`write`]: sources and sinks; [`model`]: definitions and laws
 //!
@@ -60,6 +61,7 @@ pub use cbor_rules as rules;
 pub use cbor_ser::{Serializer, to_vec, to_vec_packed, to_writer};
 pub use cbor_strict as strict;
 pub use cbor_strict::{from_slice_canonical, from_slice_canonical_as};
+pub use cbor_value::raw_value::{RawSlice, RawValue};
 pub use cbor_value::{Value, bytes};
 
 pub mod value;

@@ -1,5 +1,5 @@
 -- What is so of the item of any document.
-pub use Rattle.cbor_round_trip.proofs.facts.Documents.{no_chunks}
+pub use Rattle.cbor_round_trip.proofs.facts.Documents.{no_chunks, items_unchunked}
 -- how deep it nests, by its parts
 pub use Rattle.cbor_round_trip.proofs.facts.Documents.{null_nests, bool_nests, integer_nests, bytes_nest, text_nests, unit_variant_nests, newtype_variant_nests, items_nest, sequence_nests}
 pub use Rattle.cbor_round_trip.proofs.facts.Documents.{no_fields_nest, field_nests, field_if_nests, structure_nests}
