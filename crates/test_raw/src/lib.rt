@@ -1,0 +1,9 @@
+//! Tests of items that aren't decoded.
+#![tactic(auto)]
+
+#[cfg(test)]
+mod kept;
+#[cfg(test)]
+mod refused;
+#[cfg(test)]
+mod taken;
