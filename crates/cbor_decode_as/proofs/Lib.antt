@@ -5,5 +5,6 @@ pub mod arrays
 pub mod maps
 pub mod enums
 pub mod refused
+pub mod JoinedLengths
 pub mod RawItems
 pub mod facts

@@ -1,13 +1,13 @@
 -- The item at the front of bytes, as a decoder of them passes over it.
-use Rattle.std.proofs.Common.{◌≡◌, ◌⊎◌, inl, inr, ◌∙◌, ◌+◌, ◌<◌, ◌≤◌, ◌^◌, ℕ, Bool, true, List, [], ◌++◌, length, take, drop, Option, None, Some, Result, Ok, Err, IfOk, IfSome, refl, sym, ap, subst, arith}
+use Rattle.std.proofs.Common.{◌≡◌, ◌⊎◌, inl, inr, ◌∙◌, ◌+◌, ◌<◌, ◌≤◌, ◌^◌, ℕ, Bool, true, List, ◌++◌, length, take, drop, Option, Some, Result, Ok, Err, IfOk, IfSome, refl, sym, ap, subst, arith}
 use Rattle.std.proofs.lemmas.Bool.{le-ltb, lt-ltb}
 use Rattle.std.proofs.lemmas.List.{append_assoc, length-append, length-take, take-append-drop}
 use Rattle.std.proofs.Math.Seq.{take-append_seam}
-use Rattle.cbor_model.specs.Encoding.{Encodes, IsEncoding}
+use Rattle.cbor_model.specs.Encoding.{IsEncoding}
 use Rattle.cbor_model.specs.Formats.{Formats}
 use Rattle.cbor_model.specs.Plain.{Val}
 use Rattle.cbor_model.specs.Raw.{Raw, AreBytes}
-use Rattle.cbor_model.specs.RawReader.{Begins, raws_in}
+use Rattle.cbor_model.specs.RawReader.{raws_in}
 use Rattle.cbor_model.specs.Reader.{Fault, Reads, bytes_at, item_at}
 use Rattle.cbor_model.specs.Spelling.{spell}
 use Rattle.cbor_model.specs.Value.{value}
@@ -19,7 +19,7 @@ use Rattle.cbor_io.specs.declared.error.ErrorCode.TheVariants as code
 use Rattle.cbor_io.specs.declared.read_error.ReadError.{ReadError}
 use Rattle.cbor_io.specs.declared.read_error.ReadErrorCode.{ReadErrorCode}
 use Rattle.cbor_read.specs.Source.{Input, Lends, RefusedPart, Took, TookSome, start_of_slice}
-use Rattle.cbor_decode.specs.Gives.{FailsBy, IsErrorOf, Reports, Limits, ReportsIo, Step, Stopped, limits, values}
+use Rattle.cbor_decode.specs.Gives.{IsErrorOf, Reports, Limits, ReportsIo, Step, Stopped, limits, values}
 use Rattle.cbor_decode.specs.Heads.{passed}
 use Rattle.cbor_decode.specs.declared.refusal.Refused.{Refused}
 use Rattle.cbor_decode.specs.declared.refusal.Refused.TheVariants as refused

@@ -5,7 +5,6 @@ use Rattle.cbor_model.specs.Formats.{Formats, all_formats}
 use Rattle.cbor_model.specs.Head.{no_bytes, one_byte}
 use Rattle.cbor_model.specs.Raw as raw
 use Rattle.cbor_model.specs.Raw.{Raw, Raws, definite, indefinite, no_raws, raw_pair, no_raw_pairs}
-use Rattle.cbor_model.specs.Raw.{null_item}
 use Rattle.cbor_model.specs.Readable.{PassesTags, IsUnit, IsInteger}
 use Rattle.cbor_decode_as.specs.Arrays.{AsArray, FirstThen, AreNone}
 use Rattle.cbor_decode_as.specs.Identifiers.{IsIdentifier}

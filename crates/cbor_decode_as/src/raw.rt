@@ -14,9 +14,11 @@ use cbor_io::error::{Error, Result};
 use cbor_read::{EitherLifetime, Read, SliceRead, SliceReadFixed, Source};
 use std::alloc::Global;
 
-// Where the item at the front of the bytes ends, which may be so many levels deep, has keys of
-// these formats, and whose strings in chunks fit the room; or why none does.
-fn end_of_item(
+/// Where the item at the front of the bytes ends, which may be so many levels deep, has keys of
+/// these formats, and whose strings in chunks fit the room; or why none does.
+///
+/// Memory is asked for where it has a string in chunks, and where the room is less than the item.
+pub fn end_of_item(
     alloc: Global,
     bytes: &[u8],
     levels: u64,
@@ -26,15 +28,17 @@ fn end_of_item(
     ensures found { FindsEnd (formats_of formats) levels room bytes.now result }
     ensures bytes { AreBytes bytes.now }
 {
+    let end = end_in_slice(alloc, bytes, levels, formats)?;
     match room {
-        None => end_in_slice(alloc, bytes, levels, formats),
-        Some(most) => {
+        // Strings in chunks are no longer than their item.
+        Some(most) if most < end => {
             let mut scratch = match Vec::from_elem(alloc, 0, most) {
                 Ok(scratch) => scratch,
                 Err(full) => return Err(Error::from(full)),
             };
             end_with_scratch(alloc, bytes, levels, formats, &mut scratch)
         }
+        _ => Ok(end),
     }
 }
 
@@ -73,8 +77,8 @@ fn end_with_scratch(
 /// What is read as an item that isn't decoded where none is lent.
 const NOT_LENT: &str = "invalid type: expected an item that the input lends";
 
-// Where the item at hand ends, within what the decoder reads.
-fn end_at_hand<R: Source>(decoder: &Decoder<R>) -> Result<usize>
+/// Where the item at hand ends, within what the decoder reads; or why none is at hand as a whole.
+pub fn end_at_hand<R: Source>(decoder: &Decoder<R>) -> Result<usize>
     ensures found { FindsEnd (formats_of decoder.now.formats) decoder.now.levels
         (R.source decoder.now.source).room (R.at_hand decoder.now.source) result }
     ensures within { IfOk result (λ n. n ≤ length (R.at_hand decoder.now.source)) }
@@ -115,8 +119,9 @@ fn not_lent<R: Source>(decoder: &mut Decoder<R>, error: Error) -> Error
 ///
 /// It has to be acceptable within the levels that are left, with keys of the formats that are read,
 /// as an item that is passed over. Where the source lends nothing for the input's life, an item is
-/// refused with `invalid type: expected an item that the input lends`. Memory is asked for where it
-/// has a string in chunks, and as much as the source's scratch has, where it has one.
+/// refused with `invalid type: expected an item that the input lends`. Memory is asked for where
+/// the item has a string in chunks, and where the source's scratch is shorter than the item, as
+/// much as that scratch.
 pub fn read_raw<'de, R: Read<'de>>(decoder: &mut Decoder<R>) -> Result<&'de [u8]>
     ensures read { IfOk result (λ bytes. call.TakesItem R.source R.refusals
         (IsLentItem (context decoder.old.formats R.lends)) decoder.old decoder.new

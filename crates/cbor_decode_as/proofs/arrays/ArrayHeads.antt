@@ -3,7 +3,7 @@ use Rattle.std.proofs.Common.{◌≡◌, ℕ, suc, ◌+◌, Bool, List, Some, Ok
 use Rattle.cbor_model.specs.Formats.{Formats}
 use Rattle.cbor_model.specs.Head.{HeadWidth}
 use Rattle.cbor_model.specs.Raw as raw
-use Rattle.cbor_model.specs.Raw.{Raw, Raws, Length}
+use Rattle.cbor_model.specs.Raw.{Raw, Raws}
 use Rattle.cbor_model.specs.Readable.{untagged, PassesTags}
 use Rattle.cbor_model.specs.Refusal.{too_deep}
 use Rattle.cbor_model.specs.Reader.{Fault, Reads, array_at, item_at, inside}

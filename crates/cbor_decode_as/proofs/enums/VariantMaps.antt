@@ -3,9 +3,9 @@ use Rattle.std.proofs.Common.{◌≡◌, ◌∙◌, ◌+◌, ℕ, zero, suc, Boo
 use Rattle.cbor_model.specs.Formats.{Formats, may_begin_key}
 use Rattle.cbor_model.specs.Head.{HeadWidth, no_bytes, one_byte, two_bytes, four_bytes, eight_bytes}
 use Rattle.cbor_model.specs.Raw as raw
-use Rattle.cbor_model.specs.Raw.{Raw, Raws, RawPairs, Length, no_raws, no_raw_pairs, raw_pair, definite, indefinite}
+use Rattle.cbor_model.specs.Raw.{Raw, RawPairs, Length, no_raw_pairs, raw_pair, definite, indefinite}
 use Rattle.cbor_model.specs.Readable.{untagged, PassesTags}
-use Rattle.cbor_model.specs.Reader.{Fault, Reads, ◌>>=◌, byte_at, item_at, inside, within, map_at, parts_by, pairs_of, pair_at, next_at}
+use Rattle.cbor_model.specs.Reader.{Reads, ◌>>=◌, byte_at, item_at, inside, within, map_at, parts_by, pairs_of, pair_at, next_at}
 use Rattle.cbor_model.specs.Reader as reader
 use Rattle.cbor_model.proofs.facts.Reader.{ok_is}
 use Rattle.cbor_read.specs.Source.{Input}
@@ -22,7 +22,7 @@ use Rattle.cbor_decode.specs.declared.head.Head.{Head}
 use Rattle.cbor_decode.specs.declared.head.Head.TheVariants as head
 use Rattle.cbor_decode.specs.declared.cursor.Remaining.TheVariants.{Counted, ToBreak}
 use Rattle.cbor_decode_as.specs.Enums.{IsVariant, IsName, Content}
-use Rattle.cbor_decode_as.specs.Kinds.{kind_of, head_kind}
+use Rattle.cbor_decode_as.specs.Kinds.{head_kind}
 use Rattle.cbor_decode_as.specs.Kinds as kind
 use Rattle.cbor_decode_as.specs.Takes.{raws, IsNotRead, Refuses}
 use Rattle.cbor_decode_as.specs.Tags.{begins_tag, tag_first_at}

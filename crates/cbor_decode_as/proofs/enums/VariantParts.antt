@@ -6,7 +6,7 @@ use Rattle.cbor_model.specs.Raw as raw
 use Rattle.cbor_model.specs.Raw.{Raw, Raws, no_raws}
 use Rattle.cbor_model.specs.Readable.{PassesTags, IsUnit}
 use Rattle.cbor_model.specs.Refusal.{end_in_array}
-use Rattle.cbor_model.specs.Reader.{Fault, Reads, ◌>>=◌, next_at, item_at}
+use Rattle.cbor_model.specs.Reader.{Reads, ◌>>=◌, next_at, item_at}
 use Rattle.cbor_model.specs.Reader as reader
 use Rattle.cbor_model.proofs.facts.Reader.{ok_is}
 use Rattle.cbor_read.specs.Source.{Input}

@@ -3,7 +3,7 @@ use Rattle.std.proofs.Common.{◌≡◌, ◌∙◌, ◌||◌, ℕ, Bool, true, f
 use Rattle.cbor_model.specs.Formats.{Formats}
 use Rattle.cbor_model.specs.Head.{HeadWidth, no_bytes, one_byte, two_bytes, four_bytes, eight_bytes}
 use Rattle.cbor_model.specs.Raw as raw
-use Rattle.cbor_model.specs.Raw.{Raw, Raws, no_raws, no_raw_pairs, raw_pair, definite, indefinite}
+use Rattle.cbor_model.specs.Raw.{Raw, no_raws, no_raw_pairs, raw_pair, definite, indefinite}
 use Rattle.cbor_model.specs.Readable.{untagged, PassesTags}
 use Rattle.cbor_model.specs.Refusal.{unassigned_code}
 use Rattle.cbor_model.specs.Reader.{Reads, ◌>>=◌, before, ended, byte_at, item_at}

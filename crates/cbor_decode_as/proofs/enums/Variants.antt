@@ -2,10 +2,10 @@
 use Rattle.std.proofs.Common.{◌≡◌, ◌∙◌, ℕ, zero, suc, Bool, true, List, [], ◌∷◌, ◌++◌, Option, Some, None, Ok, Err, refl, sym, ap, subst}
 use Rattle.cbor_model.specs.Formats.{Formats}
 use Rattle.cbor_model.specs.Raw as raw
-use Rattle.cbor_model.specs.Raw.{Raw, Raws, RawPairs, Length, no_raws, no_raw_pairs, raw_pair, definite, indefinite}
+use Rattle.cbor_model.specs.Raw.{Raw, Raws, Length, no_raws}
 use Rattle.cbor_model.specs.Readable.{untagged, PassesTags, IsString}
 use Rattle.cbor_model.specs.Refusal.{end_in_array}
-use Rattle.cbor_model.specs.Reader.{Fault, Reads, ◌>>=◌, item_at, next_at}
+use Rattle.cbor_model.specs.Reader.{Reads, ◌>>=◌, item_at, next_at}
 use Rattle.cbor_model.specs.Reader as reader
 use Rattle.cbor_model.proofs.facts.Reader.{ok_is}
 use Rattle.cbor_read.specs.Source.{Input}

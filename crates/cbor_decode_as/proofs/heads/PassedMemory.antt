@@ -3,7 +3,7 @@ use Rattle.std.proofs.Common.{◌≡◌, ℕ, zero, suc, List, Option, Ok, Err, 
 use Rattle.cbor_model.specs.Formats.{all_formats}
 use Rattle.cbor_model.specs.Head.{HeadWidth}
 use Rattle.cbor_model.specs.Raw as raw
-use Rattle.cbor_model.specs.Raw.{Chunk, Raw, Raws, RawPairs}
+use Rattle.cbor_model.specs.Raw.{Raw, Raws, RawPairs}
 use Rattle.cbor_model.specs.Reader.{Reads, Reading, ◌>>=◌, inside, item_at, tag_at}
 use Rattle.cbor_model.proofs.facts.Reader.{ok_is}
 use Rattle.cbor_read.specs.Source.{Asks, Input}

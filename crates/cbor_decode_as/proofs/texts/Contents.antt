@@ -7,7 +7,7 @@ use Rattle.std.proofs.lemmas.Str.{utf8_valid_len-IsUtf8}
 use Rattle.cbor_model.specs.Formats.{Formats}
 use Rattle.cbor_model.specs.Head.{HeadWidth}
 use Rattle.cbor_model.specs.Raw as raw
-use Rattle.cbor_model.specs.Raw.{Raw, Chunk, joined, false_item, true_item, null_item, undefined_item}
+use Rattle.cbor_model.specs.Raw.{Raw, Chunk, joined}
 use Rattle.cbor_model.specs.Readable.{Context, untagged, PassesTags, IsString, IsText, is_lent}
 use Rattle.cbor_model.specs.Refusal.{invalid_utf8}
 use Rattle.cbor_model.specs.Reader.{Fault, Reading, Reads, ◌>>=◌, bytes_at, chunks_at, exceeds_most, string_at, checked_text, text_at, string_chunks_at, text_chunks_at, item_at, inside}

@@ -5,7 +5,6 @@ use Rattle.std.proofs.lemmas.List.{length-take-le}
 use Rattle.std.specs.Str.{IsUtf8}
 use Rattle.cbor_model.specs.Formats.{Formats}
 use Rattle.cbor_model.specs.Raw as raw
-use Rattle.cbor_model.specs.Raw.{Raw}
 use Rattle.cbor_model.specs.Reader.{item_at}
 use Rattle.cbor_io.specs.declared.head.Major.TheVariants.{UnsignedInteger}
 use Rattle.cbor_io.specs.declared.read_error.ReadError.{ReadError}

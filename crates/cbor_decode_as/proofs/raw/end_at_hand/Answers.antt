@@ -1,4 +1,4 @@
-use Rattle.std.proofs.Common.{◌≡◌, ℕ, List, Option, subst, ap, sym, arith}
+use Rattle.std.proofs.Common.{ℕ, List, Option, subst, arith}
 use Rattle.cbor_decode.specs.Decoder.{formats_of}
 use Rattle.cbor_decode_as.specs.RawItems.{FindsEnd, ShowsFront}
 use Rattle.cbor_decode_as.proofs.RawItems.{ends_within}

@@ -1,4 +1,4 @@
-use Rattle.std.proofs.Common.{◌≡◌, ◌∙◌, ◌<◌, ◌^◌, Bool, length, None, Ok, ap, sym, subst, arith}
+use Rattle.std.proofs.Common.{◌≡◌, ◌∙◌, ◌<◌, ◌^◌, length, None, Ok, ap, sym, subst, arith}
 use Rattle.cbor_model.specs.Raw.{AreBytes}
 use Rattle.cbor_model.specs.Reader.{item_at}
 use Rattle.cbor_read.specs.Source.{Input, slice_refusals, start_of_slice}

@@ -1,13 +1,9 @@
-use Rattle.std.proofs.Common.{◌≡◌, ◌∙◌, IfSome, length, take, refl, sym, subst, ap, arith}
+use Rattle.std.proofs.Common.{◌≡◌, ◌∙◌, IfSome, length, take, sym, subst, ap, arith}
 use Rattle.std.proofs.lemmas.Result.{MatchResult-at_err, MatchResult-at_ok}
-use Rattle.cbor_model.specs.Reader.{item_at}
-use Rattle.cbor_io.specs.Error.{code_of, offset_of}
 use Rattle.cbor_read.specs.Source.{Took, is_long, part_bytes}
 use Rattle.cbor_read.specs.declared.EitherLifetime.{EitherLifetime}
-use Rattle.cbor_decode_as.specs.RawItems.{IsLentItem}
-use Rattle.cbor_decode_as.specs.Takes.{IsNotRead, context, formats_of, raws}
+use Rattle.cbor_decode_as.specs.Takes.{formats_of}
 use Rattle.cbor_decode_as.proofs.RawItems.{front_encodes, front_refused, lent_step, some_there}
-use Rattle.cbor_decode_as.proofs.refused.Refusing.{refuses_map}
 use Rattle.cbor_decode_as.proofs.raw.read_raw.Goals as goal
 
 pub returns-in-Ok-Long-clause-read : goal.returns-in-Ok-Long-clause-read
