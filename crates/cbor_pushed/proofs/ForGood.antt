@@ -84,7 +84,7 @@ module _ (bytes more : List ℕ) where
   allowed_more levels wrong_struct_format place offset other h = absurd h
 
 -- an end has the category
-end_category : (why : Refusal) → IsEnd why → category_of (refusal_code why) ≡ category.Eof
+pub end_category : (why : Refusal) → IsEnd why → category_of (refusal_code why) ≡ category.Eof
 end_category end_in_value is = refl
 end_category end_in_array is = refl
 end_category end_in_map is = refl

@@ -52,7 +52,7 @@ module _ {Part Whole : Type 0} (ps : Parts Part Whole) (takes : (bs : List ℕ) 
 -- ---- keys
 
 -- with all formats each first byte may begin a key
-all_may_begin : (b : ℕ) → may_begin_key all_formats b ≡ true
+pub all_may_begin : (b : ℕ) → may_begin_key all_formats b ≡ true
 all_may_begin b = each (ltb b 28) (ltb b 96) (ltb b 124) (eqb b 127)
   where
     each : (p q r s : Bool) → cond p true (cond q true (cond r true (cond s true true))) ≡ true

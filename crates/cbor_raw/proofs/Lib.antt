@@ -1,1 +1,4 @@
+mod Alone
+mod Unread
+mod Kept
 pub mod Gathering

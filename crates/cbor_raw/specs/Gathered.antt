@@ -1,9 +1,16 @@
 -- What is taken of a source for the item at its front, as its bytes.
-use Rattle.std.specs.Prelude.{◌≡◌, ℕ, Bool, true, false, List, [], ◌∷◌, ◌++◌, length, IfSome}
+use Rattle.std.specs.Prelude.{◌≡◌, ℕ, Bool, true, false, List, [], ◌∷◌, ◌++◌, length, IfSome, Ok}
+use Rattle.std.specs.Prelude.{Option}
+use Rattle.cbor_model.specs.Encoding.{Encodes}
+use Rattle.cbor_model.specs.Formats.{Formats}
+use Rattle.cbor_model.specs.Raw.{Raw}
+use Rattle.cbor_model.specs.RawReader.{raws_in}
+use Rattle.cbor_model.specs.Reader.{item_at}
 use Rattle.cbor_io.specs.declared.error.Error.{Error}
 use Rattle.cbor_io.specs.declared.read_error.ReadErrorCode.{ReadErrorCode}
 use Rattle.cbor_io.specs.Error.{code_of, offset_of}
 use Rattle.cbor_read.specs.Source.{Input, Stays, TookKept}
+use Rattle.cbor_decode.specs.Gives.{Limits}
 use Rattle.cbor_decode_as.specs.Takes.{Refuses}
 use Rattle.cbor_pushed.specs.ItemAtFront.{HasItem, HasNoItem}
 
@@ -17,6 +24,21 @@ pub record IsGathered (levels : ℕ) (s t : Input) (bytes : List ℕ) : Type 0 w
 abbrev pub GathersNone : (ReadErrorCode → Bool) → ℕ → Input → Input → Error → Type 0
 GathersNone refusals levels s t e =
     Refuses refusals s t (code_of e) (offset_of e) (λ l bs. HasNoItem levels bs)
+
+-- The reference reader reads no item of these bytes, whichever formats are read and however long a
+-- scratch is.
+abbrev pub ReadsNone : ℕ → Limits → List ℕ → Type 0
+ReadsNone levels l bs = (f : Formats) (most : Option ℕ) (r : Raw) (rest : List ℕ)
+    → ¬ (item_at (raws_in f l.total most) levels bs ≡ Ok (r, rest))
+
+-- the same as of what is gathered, but that none is read
+abbrev pub GathersUnread : (ReadErrorCode → Bool) → ℕ → Input → Input → Error → Type 0
+GathersUnread refusals levels s t e =
+    Refuses refusals s t (code_of e) (offset_of e) (ReadsNone levels)
+
+-- the bytes that encode an item are what it is read as
+abbrev pub IsBytesOf : Raw → List ℕ → Type 0
+IsBytesOf r bytes = Encodes bytes r
 
 -- the same, by lack of memory or a fault of the device alone
 abbrev pub IsExcused : (ReadErrorCode → Bool) → Input → Input → Error → Type 0

@@ -1,9 +1,11 @@
 //! The bytes of the item at the front of a source that doesn't show what is to come.
 
 ghost use Rattle.std.specs.Prelude.{◌≡◌, ◌+◌, ◌-◌, ◌^◌, ◌<◌, min, IfErr, IfOk, OnOk};
+ghost use Rattle.cbor_model.specs.Raw.{AreBytes};
 ghost use Rattle.cbor_io.specs.Error.{HasNoOffset, code_of, offset_of};
 ghost use Rattle.cbor_decode.specs.Decoder.{SameSettings};
-ghost use Rattle.cbor_raw.specs.Gathered.{GathersNone, IsExcused, IsGathered, TakesByte};
+ghost use Rattle.cbor_raw.specs.Gathered.{GathersNone, GathersUnread, IsExcused, IsGathered};
+ghost use Rattle.cbor_raw.specs.Gathered.{TakesByte};
 
 use cbor_decode::Decoder;
 use cbor_io::error::{Error, ErrorCode, Result};
@@ -21,6 +23,8 @@ pub fn gather<R: Source>(decoder: &mut Decoder<R>) -> Result<Vec<u8>>
         (R.source decoder.old.source) (R.source decoder.new.source) bytes.items) }
     ensures err { IfErr result (GathersNone R.refusals decoder.old.levels
         (R.source decoder.old.source) (R.source decoder.new.source)) }
+    ensures unread { IfErr result (GathersUnread R.refusals decoder.old.levels
+        (R.source decoder.old.source) (R.source decoder.new.source)) }
     ensures settings { SameSettings decoder.old decoder.new }
 {
     let alloc = decoder.alloc;
@@ -31,15 +35,24 @@ pub fn gather<R: Source>(decoder: &mut Decoder<R>) -> Result<Vec<u8>>
     'bytes: loop {
         match take_byte(decoder, &mut bytes) {
             Ok(true) => {}
-            Ok(false) => return Err(further(end_of_input(alloc, &bytes, levels), start)),
+            Ok(false) => return Err(further(end_of_input(alloc, shown(&bytes), levels), start)),
             Err(error) => return Err(error),
         }
-        match scan.find(alloc, &bytes, levels) {
+        match scan.find(alloc, shown(&bytes), levels) {
             Ok(Some(_)) => return Ok(bytes),
             Ok(None) => {}
             Err(error) => return Err(further(error, start)),
         }
     }
+}
+
+// These bytes, of which it is said that they are below 256.
+#[inline(always)]
+fn shown(bytes: &[u8]) -> &[u8]
+    ensures same { result.now ≡ bytes.now }
+    ensures bytes { AreBytes result.now }
+{
+    bytes
 }
 
 // Takes the next byte to the end of these; false where none is to come.
@@ -65,7 +78,7 @@ fn take_byte<R: Source>(decoder: &mut Decoder<R>, bytes: &mut Vec<u8>) -> Result
 }
 
 // The same error, so many bytes further into the input where it has a place.
-fn further(error: Error, start: u64) -> Error
+pub(crate) fn further(error: Error, start: u64) -> Error
     ensures code { code_of result ≡ code_of error }
     ensures stays { HasNoOffset (code_of error) → result ≡ error }
     ensures offset { (HasNoOffset (code_of error) → ⊥)

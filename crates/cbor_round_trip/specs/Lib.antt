@@ -1,6 +1,7 @@
 pub mod ReadBack
 pub mod OneReading
 pub mod Scalars
+pub mod Undecoded
 pub mod Lists
 pub mod Options
 pub mod Keyed

@@ -7,6 +7,7 @@ ghost use Rattle.cbor_value.specs.View.{view};
 use crate::round_trip::RoundTrip;
 use cbor_convert::{Encoded, Required};
 use cbor_value::bytes::ByteBuf;
+use cbor_value::raw_value::RawValue;
 use cbor_value::{Float, Value};
 
 /// Every integer from 0 is read back as it was written, where it can be: one of a `u128` above
@@ -50,6 +51,13 @@ pub fn strings_fit(a: &String, b: &ByteBuf)
 pub fn ordered_values_fit(value: &Value)
     ensures { IsOrdered (view value.now) → ⟦<Value as RoundTrip>⟧.law.fits value.now }
 {}
+
+/// Every item that isn't decoded is.
+pub fn undecoded_items_fit(a: &RawValue)
+    ensures { ⟦<RawValue as RoundTrip>⟧.law.fits a.now }
+{
+    let _ = a.as_bytes();
+}
 
 /// Every encoding within its tag is.
 pub fn encodings_fit<T>(a: &Encoded<T>)

@@ -19,7 +19,7 @@ mod types;
 
 pub use fits::{
     boxes_fit, encodings_fit, integers_fit, items_fit, naturals_fit, ordered_values_fit,
-    required_fit, scalars_fit, strings_fit, tuples_fit,
+    required_fit, scalars_fit, strings_fit, tuples_fit, undecoded_items_fit,
 };
 pub use laws::{one_value, write_and_read, written_reads_back_as};
 pub use parts::{

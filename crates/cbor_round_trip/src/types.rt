@@ -3,6 +3,7 @@
 use crate::round_trip::{RoundTrip, RoundTripKey};
 use cbor_convert::{Encoded, Required, Tagged};
 use cbor_value::bytes::{ByteArray, ByteBuf};
+use cbor_value::raw_value::RawValue;
 use cbor_value::{Float, Value};
 use std::collections::{BTreeMap, BTreeSet};
 
@@ -195,6 +196,16 @@ impl RoundTrip for ByteBuf {
     ghost use Rattle.cbor_round_trip.specs.TypeLaws.{law_of};
 
     ghost law = { law_of (bytes_back {items = λ b. b.0.items}) };
+
+    ghost back = { Self.law.back };
+}
+
+impl RoundTrip for RawValue {
+    ghost use Rattle.cbor_round_trip.specs.TypeLaws.{law_of};
+    ghost use Rattle.cbor_round_trip.specs.Undecoded.{encoded_back};
+    ghost use Rattle.cbor_value.specs.RawBytes.{raw_bytes};
+
+    ghost law = { law_of (encoded_back {items = raw_bytes}) };
 
     ghost back = { Self.law.back };
 }

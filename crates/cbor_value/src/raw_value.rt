@@ -9,22 +9,19 @@ use std::fmt;
 
 /// One item that isn't decoded: the bytes that encode it, exactly as they came.
 ///
-/// It is read where any item stands, from any source, and written as it is: a signature is checked
-/// over the very bytes that were signed, and what a program doesn't look at is passed on unchanged.
-/// What it holds is read from its bytes, by `from_slice`. [`RawSlice`] is one that is borrowed.
+/// It is read in place of any item, and written as it is: a signature is checked over the very bytes
+/// that were signed, and what a program doesn't look at is passed on unchanged. What it holds is read
+/// from its bytes, by `from_slice`. [`RawSlice`] is one that is borrowed.
 ///
 /// Its bytes are always those of one item that is well formed, with texts that are UTF-8. An item
 /// that is read as a `RawValue` may be nested as deep as one that is read as a [`Value`](super::Value)
 /// in its place. Two are equal where their bytes are.
 ///
 /// ```rust
-/// // {"signed": [1, 2], ..}, whose 1 is encoded in two bytes
-/// #[derive(Drop)]
-/// struct Message { signed: RawValue }
-///
-/// let message: Message = from_slice(alloc, b"\xa1\x66signed\x82\x18\x01\x02")?;
-/// assert_eq!(rt; message.signed.as_bytes(), b"\x82\x18\x01\x02".as_slice());
-/// let signed: Vec<u8> = from_slice(alloc, message.signed.as_bytes())?;
+/// // Two items, of which the first is [1, 2] with its 1 encoded in two bytes.
+/// let message: (RawValue, bool) = from_slice(alloc, b"\x82\x82\x18\x01\x02\xf5")?;
+/// assert_eq!(rt; message.0.as_bytes(), b"\x82\x18\x01\x02".as_slice());
+/// let signed: Vec<u8> = from_slice(alloc, message.0.as_bytes())?;
 /// ```
 #[derive(Drop, PartialEq, Eq)]
 pub struct RawValue {
@@ -34,8 +31,7 @@ pub struct RawValue {
 
 /// One item that isn't decoded and is borrowed: a slice of the bytes that encode it.
 ///
-/// It is read where the source lends it for the input's life, as a slice does, and takes no memory
-/// but where the item has a string in chunks. It is written as it is.
+/// It is read where the source lends it for the input's life, as a slice does, and written as it is.
 #[derive(Clone, Copy, PartialEq, Eq)]
 pub struct RawSlice<'a> {
     bytes: &'a [u8],

@@ -2,7 +2,8 @@
 
 use cbor_convert::{to_value, to_vec_canonical};
 use cbor_de::{
-    Deserialize, Deserializer, SliceRead, from_mut_slice, from_slice, from_slice_with_scratch,
+    Deserialize, Deserializer, SliceRead, from_mut_slice, from_reader, from_slice,
+    from_slice_with_scratch,
 };
 use cbor_ser::to_vec;
 use cbor_value::Value;
@@ -25,7 +26,7 @@ const ITEMS: [&[u8]; 8] = [
     b"\xf6",
 ];
 
-/// The item is read as its bytes, borrowed and owned, and written as them.
+/// The item is read as its bytes, borrowed and owned, of a slice and of a reader, and written as them.
 fn is_kept(rt: &impl Abort, alloc: Global, item: &[u8]) -> Done {
     let borrowed: RawSlice = from_slice(alloc, item)?;
     assert!(rt; borrowed.as_bytes() == item);
@@ -33,6 +34,8 @@ fn is_kept(rt: &impl Abort, alloc: Global, item: &[u8]) -> Done {
     let owned: RawValue = from_slice(alloc, item)?;
     assert!(rt; owned.as_raw() == borrowed);
     assert!(rt; to_vec(alloc, &owned)?.as_slice() == item);
+    let read: RawValue = from_reader(alloc, item)?;
+    assert!(rt; read == owned);
     let copy = owned.clone(alloc)?;
     assert!(rt; copy.into_bytes().as_slice() == item);
     Ok(())
@@ -60,6 +63,18 @@ fn keeps_parts_of_an_array(rt: HostRuntime) -> Done {
     assert!(rt; to_vec(alloc, &parts)?.as_slice() == bytes.as_slice());
     let inner: Vec<u8> = from_slice(alloc, parts[1].as_bytes())?;
     assert!(rt; inner.as_slice() == [2, 3].as_slice());
+    Ok(())
+}
+
+// The same array, of a reader.
+#[test]
+fn keeps_parts_of_what_is_read(rt: HostRuntime) -> Done {
+    let alloc = rt.alloc();
+    let bytes: &[u8] = b"\x83\x18\x01\x82\x02\x19\0\x03\x61a";
+    let (number, list, text): (u8, RawValue, String) = from_reader(alloc, bytes)?;
+    assert_eq!(rt; number, 1);
+    assert!(rt; list.as_bytes() == b"\x82\x02\x19\0\x03".as_slice());
+    assert!(rt; text.as_str() == "a");
     Ok(())
 }
 

@@ -1,6 +1,8 @@
 //! What encodes no item is refused where any item would be, and what isn't lent.
 
-use cbor_de::{Deserialize, Deserializer, IoRead, SliceRead, from_slice, from_slice_with_scratch};
+use cbor_de::{
+    Deserialize, Deserializer, IoRead, SliceRead, from_reader, from_slice, from_slice_with_scratch,
+};
 use cbor_value::raw_value::{RawSlice, RawValue};
 use std::process::Abort;
 use test_checks::{Done, is_refused};
@@ -23,6 +25,7 @@ fn refuses_what_encodes_no_item(rt: HostRuntime) -> Done {
     for (bytes, words) in ROWS {
         is_refused(from_slice::<RawSlice>(alloc, bytes), words)?;
         is_refused(from_slice::<RawValue>(alloc, bytes), words)?;
+        is_refused(from_reader::<RawValue, _>(alloc, bytes), words)?;
     }
     Ok(())
 }
@@ -48,6 +51,30 @@ fn refuses_what_the_settings_refuse(rt: HostRuntime) -> Done {
     is_refused(
         from_slice_with_scratch::<RawSlice>(alloc, chunks, &mut scratch),
         "Scratch buffer too small at offset 4",
+    )?;
+    is_refused(
+        from_slice_with_scratch::<RawValue>(alloc, chunks, &mut scratch),
+        "Scratch buffer too small at offset 4",
+    )
+}
+
+// The same of a reader, behind an item of one byte.
+#[test]
+fn refuses_of_a_reader_what_the_settings_refuse(rt: HostRuntime) -> Done {
+    let alloc = rt.alloc();
+    let deep: &[u8] = b"\x05\x81\x81\0";
+    let mut de = Deserializer::new(alloc, IoRead::new(alloc, deep)).nesting_limit(1);
+    assert_eq!(rt; u8::deserialize(&mut de)?, 5);
+    is_refused(
+        RawValue::deserialize(&mut de),
+        "recursion limit exceeded at offset 3",
+    )?;
+    let named: &[u8] = b"\x05\xa1\x61a\0";
+    let mut de = Deserializer::new(alloc, IoRead::new(alloc, named)).disable_named_format();
+    assert_eq!(rt; u8::deserialize(&mut de)?, 5);
+    is_refused(
+        RawValue::deserialize(&mut de),
+        "wrong struct format at offset 2",
     )
 }
 
@@ -58,7 +85,7 @@ fn refuses_what_is_not_lent(rt: HostRuntime) -> Done {
     let bytes: &[u8] = b"\x82\x01\x02\x05";
     let mut de = Deserializer::new(alloc, IoRead::new(alloc, bytes));
     is_refused(
-        RawValue::deserialize(&mut de),
+        RawSlice::deserialize(&mut de),
         "invalid type: expected an item that the input lends",
     )?;
     assert_eq!(rt; u8::deserialize(&mut de)?, 5);

@@ -6,42 +6,42 @@ ghost use Rattle.cbor_raw.specs.Gathered.{GathersNone, IsGathered};
 ghost use Rattle.cbor_value.specs.RawBytes.{raw_bytes};
 
 use crate::de::Deserializer;
-use crate::deserialize::{Deserialize, Readable};
+use crate::deserialize::{Deserialize, DeserializeOwned, Readable};
 use cbor_decode_as::raw::read_raw;
-use cbor_io::error::{Error, Result};
+use cbor_io::error::Result;
 use cbor_raw::gather::gather;
+use cbor_raw::owned::read_owned;
 use cbor_read::{Read, Source};
 use cbor_value::raw_value::{RawSlice, RawValue, raw_slice, raw_value};
 
-/// Any item, as the bytes that encode it, where the source lends what is read for the input's life,
-/// as the slices do. They are copied.
+/// Any item, as the bytes that encode it, from any source. They are copied.
 ///
-/// From another source an item is refused with `invalid type: expected an item that the input
-/// lends`.
+/// Where the source doesn't show the item's bytes, as a reader, they are taken one by one, into
+/// memory that grows with them.
 impl Readable for RawValue {
-    ghost use Rattle.cbor_decode_as.specs.RawItems.{IsLentItem};
+    ghost use Rattle.cbor_model.specs.Encoding.{Encodes};
     ghost use Rattle.cbor_value.specs.RawBytes.{raw_bytes};
 
-    ghost reads = { λ c r x. IsLentItem c r (raw_bytes x) };
+    ghost reads = { λ c r x. Encodes (raw_bytes x) r };
 }
 
 impl<'de, R: Read<'de>> Deserialize<'de, R> for RawValue {
     fn deserialize(de: &mut Deserializer<R>) -> Result<RawValue> {
-        let alloc = de.decoder.alloc;
-        match read_raw(&mut de.decoder) {
-            Ok(bytes) => match Vec::from_slice(alloc, bytes) {
-                Ok(bytes) => Ok(raw_value(bytes)),
-                Err(full) => Err(Error::from(full)),
-            },
+        match read_owned(&mut de.decoder) {
+            Ok(bytes) => Ok(raw_value(bytes)),
             Err(error) => Err(error),
         }
     }
 }
 
+impl DeserializeOwned for RawValue {
+    ghost same = { λ f a b r u h. h };
+}
+
 /// Any item, as the bytes that encode it, which the source lends for the input's life.
 ///
-/// From another source an item is refused with `invalid type: expected an item that the input
-/// lends`.
+/// From a source that doesn't, as a reader, an item is refused with `invalid type: expected an item
+/// that the input lends`.
 impl Readable for RawSlice<'_> {
     ghost use Rattle.cbor_decode_as.specs.RawItems.{IsLentItem};
     ghost use Rattle.cbor_value.specs.RawBytes.{slice_bytes};
@@ -61,9 +61,10 @@ impl<'de, R: Read<'de>> Deserialize<'de, R> for RawSlice<'de> {
 impl<R: Source> Deserializer<R> {
     /// Takes the next item without decoding it, from any source: its bytes, and none behind them.
     ///
-    /// A slice lends them to a [`RawSlice`], and a [`RawValue`] of it is a copy. This is for sources
-    /// that lend nothing, as readers: the bytes are taken one by one, into memory that grows with
-    /// them. The item may be nested as deep as the levels that are left, with keys of any format.
+    /// It takes the bytes one by one, into memory that grows with them, as far as the item's heads
+    /// say. The item may be nested as deep as the levels that are left, with keys of any format and
+    /// strings in chunks of any length, where a [`RawValue`] that is read as a type keeps to the
+    /// formats that are read and to the source's scratch.
     ///
     /// Bytes that no item begins with are refused as soon as they show it, and an end before the
     /// item's, by the errors that reading it returns.

@@ -1,10 +1,10 @@
 use Rattle.cbor_model.specs.Reader.{item_at}
 use Rattle.cbor_io.specs.Error.{code_of, offset_of}
-use Rattle.cbor_decode_as.specs.RawItems.{IsLentItem}
-use Rattle.cbor_decode_as.specs.Takes.{context, formats_of, raws}
+use Rattle.cbor_decode_as.specs.Takes.{formats_of, raws}
 use Rattle.cbor_decode_as.proofs.facts.Readings.{refuses_map}
 use Rattle.cbor_value.specs.RawBytes.{raw_bytes}
 use Rattle.cbor_value.specs.declared.raw_value.RawValue.{RawValue}
+use Rattle.cbor_raw.specs.Gathered.{IsBytesOf}
 use Rattle.cbor_de.proofs.RawValues.{none_seen}
 use Rattle.cbor_de.proofs.types.raw.RawValueDeserialize.deserialize.Goals as goal
 
@@ -13,4 +13,4 @@ returns-in-Err-clause-read g c =
     let d = c.args.de.now.decoder in
     let e = c.in-Err.error in
     refuses_map g.R.Source.refusals (g.R.Source.source d.source) (code_of e) (offset_of e) _ _
-    (λ l bs none. none_seen (IsLentItem (context d.formats g.R.Source.lends)) (λ (x : RawValue). raw_bytes x) (item_at (raws (formats_of d.formats) l) d.levels bs) none) c.in-Err.ensures.refused
+    (λ l bs none. none_seen IsBytesOf (λ (x : RawValue). raw_bytes x) (item_at (raws (formats_of d.formats) l) d.levels bs) none) c.in-Err.ensures.refused
