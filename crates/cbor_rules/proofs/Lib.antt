@@ -6,6 +6,7 @@ pub mod ChunkSteps
 pub mod MetKeys
 pub mod Kept
 pub mod Reading
+pub mod CheckedFirst
 pub mod Fronts
 pub mod ItemsTaken
 pub mod Canonical

@@ -4,6 +4,7 @@ pub mod Walk
 pub mod Walks
 pub mod PassedKeys
 pub mod Answers
+pub mod Checked
 pub mod NextItem
 pub mod Texts
 pub mod Presets

@@ -35,6 +35,9 @@ use std::alloc::Global;
 /// too many, and after the head of the chunk with which its bytes are too many. What is reported of
 /// a head comes before what is reported of the key that it ends.
 ///
+/// The rules are looked at once the item was read: a limit bounds what is kept, and not what reading
+/// takes. [`from_slice_checked`](crate::from_slice_checked) looks at them first.
+///
 /// No memory is taken beyond that of `from_slice`, but under `KeyOrder::Unique` where some map in
 /// the item has a pair: there each map's keys are kept while the map is gone through, as references
 /// to their bytes, and a key that isn't encoded canonically as its value's canonical encoding, which

@@ -2,11 +2,13 @@
 //!
 //! The ordinary reader reads; a walk over the same bytes then looks for the first departure from
 //! the rules that are on, without memory but for keys that may stand in any order once. Limits are
-//! rules too: the most items of an array, pairs of a map and bytes of a string.
+//! rules too: the most items of an array, pairs of a map and bytes of a string. Where no memory is
+//! to be taken for an item that departs, the bytes are gone over first, and then read.
 #![tactic(auto)]
 
 mod answers;
 mod canonical_key;
+mod checked;
 mod chunks;
 mod from;
 mod front;
@@ -19,6 +21,7 @@ mod texts;
 mod walk;
 
 pub use answers::{Departure, Refusal};
+pub use checked::{from_slice_checked, from_slice_checked_with_tags};
 pub use from::{from_slice_with, from_slice_with_tags};
 pub use items::RuledItems;
 pub use laws::{

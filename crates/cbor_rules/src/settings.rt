@@ -61,17 +61,14 @@ pub enum Rule {
 /// assert!(rt; rules.shortest_heads);
 /// ```
 ///
-/// An item is read before the rules are looked at, so a limit bounds what is kept, and not what
-/// memory reading it takes, which the input's length bounds. To have an item refused by its limits
-/// before memory is taken for it, read it as an `IgnoredAny` first, and then as its type. For an
-/// `IgnoredAny` memory is taken only to join the chunks of a string, and for a map's keys where
-/// each value may be a key once:
+/// By [`from_slice_with`](crate::from_slice_with) an item is read before the rules are looked at, so
+/// there a limit bounds what is kept, and not what memory reading takes, which the input's length
+/// bounds. [`from_slice_checked`](crate::from_slice_checked) refuses an item by its limits before
+/// memory is taken for it:
 ///
 /// ```rust
 /// let limits = Rules { most_items: Some(2), most_bytes: Some(100), ..Rules::ANY };
-/// let bytes = b"\x82\x01\x61a";
-/// from_slice_with::<IgnoredAny>(alloc, bytes, limits)?;
-/// let value: Value = from_slice(alloc, bytes)?;
+/// let value: Value = from_slice_checked(alloc, b"\x82\x01\x61a", limits)?;
 /// ```
 #[derive(Clone, Copy, Debug, PartialEq, Eq)]
 pub struct Rules {

@@ -4,6 +4,8 @@
 #[cfg(test)]
 mod appendix;
 #[cfg(test)]
+mod checked;
+#[cfg(test)]
 mod checks;
 #[cfg(test)]
 mod dcbor;
