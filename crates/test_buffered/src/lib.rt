@@ -13,4 +13,6 @@ mod faults;
 #[cfg(test)]
 mod items;
 #[cfg(test)]
+mod peer;
+#[cfg(test)]
 mod sink;

@@ -6,6 +6,7 @@ use cbor_io::error::{ErrorCode, Result as Answer};
 use cbor_io::write::Write;
 use cbor_ser::{Serialize, Serializer};
 use std::alloc::{AllocError, Global};
+use std::io;
 use std::io::ErrorKind;
 use std::process::Abort;
 use std::test::Fail;
@@ -205,6 +206,49 @@ fn tries_an_interrupted_write_again(rt: HostRuntime) -> Done {
     let (writer, unsent) = sink.into_inner();
     assert!(&rt; writer.taken.as_slice() == b"abcde".as_slice());
     assert!(&rt; writer.calls == 4 && unsent.is_empty());
+    Ok(())
+}
+
+/// A writer that is interrupted so many times before it takes a byte.
+#[derive(Drop)]
+struct Interrupted {
+    taken: Vec<u8>,
+    times: usize,
+    left: usize,
+}
+
+impl io::Write for Interrupted {
+    fn write(&mut self, buf: &[u8]) -> io::Result<usize> {
+        if self.left > 0 {
+            self.left -= 1;
+            return Err(io::Error::from(ErrorKind::Interrupted));
+        }
+        self.left = self.times;
+        let count = buf.len().min(1);
+        io::Write::write(&mut self.taken, &buf[..count])
+    }
+
+    fn flush(&mut self) -> io::Result<()> {
+        Ok(())
+    }
+}
+
+#[test]
+fn tries_an_interrupted_write_again_however_often(rt: HostRuntime) -> Done {
+    let alloc = rt.alloc();
+    for times in [2, 1000, 100_000] {
+        let writer = Interrupted {
+            taken: Vec::with_capacity(alloc, 16)?,
+            times,
+            left: times,
+        };
+        let mut sink = BufferedWrite::new(alloc, writer)?;
+        sink.write_all(b"abcde")?;
+        sink.flush()?;
+        let (writer, unsent) = sink.into_inner();
+        assert!(&rt; writer.taken.as_slice() == b"abcde".as_slice());
+        assert!(&rt; unsent.is_empty());
+    }
     Ok(())
 }
 

@@ -22,6 +22,8 @@ pub mod lookup;
 #[cfg(test)]
 mod messages;
 #[cfg(test)]
+mod once;
+#[cfg(test)]
 mod sets;
 #[cfg(test)]
 mod sinks;

@@ -1,5 +1,5 @@
-//! Tests of `cbor_io`: errors and their text, what sources hold between calls, what sinks take,
-//! readers and writers that fail, and UTF-8.
+//! Tests of `cbor_io`: errors and their text, what sources hold between calls, what is left of
+//! bytes that are read in place, what sinks take, readers and writers that fail, and UTF-8.
 #![tactic(auto)]
 
 #[cfg(test)]
@@ -14,6 +14,8 @@ mod error_tests;
 mod offset_tests;
 #[cfg(test)]
 mod own_source;
+#[cfg(test)]
+mod rewritten_tests;
 #[cfg(test)]
 mod script;
 #[cfg(test)]

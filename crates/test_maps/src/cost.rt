@@ -55,3 +55,22 @@ fn finds_the_place_of_a_key_by_halves(rt: HostRuntime) -> Done {
     assert!(&rt; map.is_empty());
     Ok(())
 }
+
+// A text stands behind all integers (RFC 8949, section 4.2.1): a search from the front would meet
+// all of them, and one from the back most of them for most integers.
+#[test]
+fn finds_numbers_and_texts_by_halves(rt: HostRuntime) -> Done {
+    let alloc = rt.alloc();
+    let mut map = Map::new(alloc);
+    put_each(&mut map)?;
+    map.insert(Value::Text("a".to_owned(alloc)?), Value::Null)?;
+    for key in 0..MANY {
+        let value = Value::from(key);
+        assert!(&rt; map.get_integer(i128::from(key)) == Some(&value));
+        assert!(&rt; map.get_integer_mut(i128::from(key)) == Some(&mut value.clone(alloc)?));
+        assert!(&rt; map.get_str("a") == Some(&Value::Null));
+        assert!(&rt; map.get_mut(&value).is_some());
+        assert!(&rt; map.get_str("").is_none());
+    }
+    Ok(())
+}

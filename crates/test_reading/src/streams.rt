@@ -4,7 +4,7 @@ use cbor_de::{
     Deserialize, Deserializer, IoRead, Offset, Read, SliceRead, SliceReadFixed, StreamDeserializer,
     read_items,
 };
-use cbor_io::error::Error;
+use cbor_io::error::{Error, Result as Answer};
 use cbor_value::Value;
 use std::alloc::Global;
 use std::io;
@@ -217,6 +217,34 @@ fn reads_all_items(rt: HostRuntime) -> Done {
     let all: Vec<u8> = stream.try_collect(alloc)?;
     assert!(rt; all.len() == 2);
     Ok(())
+}
+
+/// All numbers of these bytes.
+fn numbers(alloc: Global, bytes: &[u8]) -> Answer<Vec<u8>> {
+    read_items(alloc, SliceRead::new(alloc, bytes))
+}
+
+// The first refusal is the answer, as it is of a stream; and nothing is no item.
+#[test]
+fn reads_all_items_or_none(rt: HostRuntime) -> Done {
+    let alloc = rt.alloc();
+    assert!(rt; numbers(alloc, b"")?.is_empty());
+    is_refused(
+        numbers(alloc, b"\x01\x18"),
+        "EOF while parsing a value at offset 2",
+    )?;
+    is_refused(
+        numbers(alloc, b"\x01\x1c\x02\xff"),
+        "unassigned type at offset 2",
+    )?;
+    is_refused(
+        numbers(alloc, b"\x01\x02\xff"),
+        "unexpected code at offset 3",
+    )?;
+    is_refused(
+        numbers(alloc, b"\x01\xf5\x1c"),
+        "invalid type: expected an integer",
+    )
 }
 
 /// One text is taken of two, and counted.

@@ -1,8 +1,10 @@
 // A reader that fails.
 
-use cbor_serde::from_reader;
+use cbor_serde::{ErrorCode, Result as Answer, from_reader};
 use std::io;
-use test_checks::{Done, is_refused};
+use std::process::Abort;
+use std::test::Fail;
+use test_checks::Done;
 
 // It gives one byte, and then fails.
 #[derive(Drop)]
@@ -21,10 +23,23 @@ impl io::Read for Failing {
     }
 }
 
+// The call was refused for the reader's fault, of its kind.
+pub fn is_its_fault<T: Drop>(rt: &impl Abort, answer: Answer<T>) -> Done {
+    let Err(e) = answer else {
+        return Err(Fail::from("no fault"));
+    };
+    match e.code() {
+        ErrorCode::Io(fault) => assert!(rt; fault.kind() == io::ErrorKind::TimedOut),
+        _ => return Err(Fail::from(e)),
+    }
+    assert!(rt; e.offset() == 0);
+    Ok(())
+}
+
 #[test]
 fn passes_on_a_fault(rt: HostRuntime) -> Done {
-    is_refused(
+    is_its_fault(
+        &rt,
         from_reader::<Failing, u8>(rt.alloc(), Failing { given: false }),
-        "I/O error",
     )
 }

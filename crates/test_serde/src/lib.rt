@@ -1,5 +1,5 @@
-//! Tests over `cbor_serde`: each call once, what a type may not send, options, values, byte
-//! strings, devices that fail, and streams of items.
+//! Tests over `cbor_serde`: each call once, what a type may not send, how often it is asked,
+//! options, values, byte strings, devices that fail or wait, and streams of items.
 #![tactic(auto)]
 
 #[cfg(test)]
@@ -16,6 +16,10 @@ mod floats;
 mod items;
 #[cfg(test)]
 mod long;
+#[cfg(test)]
+mod once;
+#[cfg(test)]
+mod peer;
 #[cfg(test)]
 mod sent;
 #[cfg(test)]

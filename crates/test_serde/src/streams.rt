@@ -1,6 +1,6 @@
 // Items that follow one another, and readers that never end.
 
-use crate::devices::Failing;
+use crate::devices::{Failing, is_its_fault};
 use cbor_serde::{Error, Options, Stream, from_reader};
 use std::io;
 use test_checks::{Done, is_refused};
@@ -47,7 +47,7 @@ fn ends_at_a_fault(rt: HostRuntime) -> Done {
 #[test]
 fn reports_a_fault_of_the_reader(rt: HostRuntime) -> Done {
     let mut items = Stream::<_, u8>::new(rt.alloc(), Failing { given: false });
-    is_refused(items.next().ok_or("none")?, "I/O error")?;
+    is_its_fault(&rt, items.next().ok_or("none")?)?;
     assert!(rt; items.next().is_none());
     Ok(())
 }
