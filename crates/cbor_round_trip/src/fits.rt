@@ -1,14 +1,19 @@
 //! What the laws of single types ask of a value (`law.fits`): nothing that a program's value lacks.
 
+ghost use Rattle.std.specs.Prelude.{◌≤◌, ⊤};
 ghost use Rattle.std.specs.List.{AllByRecursion};
+ghost use Rattle.std.specs.List.Sorted.{IsStrictlySortedBy};
+ghost use Rattle.std.specs.Map.{keys_of};
+ghost use Rattle.std.proofs.Common.{nat_cmp};
 ghost use Rattle.cbor_model.specs.Canonical.{IsOrdered};
 ghost use Rattle.cbor_value.specs.View.{view};
 
 use crate::round_trip::RoundTrip;
-use cbor_convert::{Encoded, Required};
-use cbor_value::bytes::ByteBuf;
+use cbor_convert::{Encoded, Required, Tagged};
+use cbor_value::bytes::{ByteArray, ByteBuf};
 use cbor_value::raw_value::RawValue;
 use cbor_value::{Float, Value};
+use std::collections::{BTreeMap, BTreeSet};
 
 /// Every integer from 0 is read back as it was written, where it can be: one of a `u128` above
 /// 2^64 - 1 is refused.
@@ -88,4 +93,40 @@ pub fn items_fit<T: RoundTrip, const N: usize>(a: &Vec<T>, b: &[T; N])
     ensures of_vec { AllByRecursion T.law.fits a.now.items
         → ⟦<Vec<T> as RoundTrip>⟧.law.fits a.now }
     ensures of_array { AllByRecursion T.law.fits b.now → ⟦<[T; N] as RoundTrip>⟧.law.fits b.now }
+{}
+
+/// What may be absent or has a tag is read back where it is not written as null or as tagged.
+pub fn bools_within_fit(a: &Option<bool>, b: &Tagged<bool>)
+    ensures of_option { ⟦<Option<bool> as RoundTrip>⟧.law.fits a.now }
+    ensures of_tagged { ⟦<Tagged<bool> as RoundTrip>⟧.law.fits b.now }
+{}
+
+/// A map is whose keys ascend, as those of each `BTreeMap` do, and so is a set.
+pub fn ascending_keys_fit(a: &BTreeMap<u8, bool>, b: &BTreeSet<u8>)
+    ensures of_map { IsStrictlySortedBy nat_cmp (keys_of a.now.entries)
+        → AllByRecursion (λ e. (e.0 ≤ 255) × ⊤) a.now.entries
+        → ⟦<BTreeMap<u8, bool> as RoundTrip>⟧.law.fits a.now }
+    ensures of_set { IsStrictlySortedBy nat_cmp b.now.keys
+        → AllByRecursion (λ n. n ≤ 255) b.now.keys
+        → ⟦<BTreeSet<u8> as RoundTrip>⟧.law.fits b.now }
+{}
+
+/// A byte string whose length the type fixes is.
+pub fn byte_arrays_fit<const N: usize>(a: ByteArray<N>)
+    ensures { ⟦<ByteArray<N> as RoundTrip>⟧.law.fits a.entry }
+{}
+
+/// Longer tuples are whose parts are.
+pub fn longer_tuples_fit(
+    a: &(bool, bool, bool, bool),
+    b: &(bool, bool, bool, bool, bool),
+    c: &(bool, bool, bool, bool, bool, bool),
+    d: &(bool, bool, bool, bool, bool, bool, bool),
+    e: &(bool, bool, bool, bool, bool, bool, bool, bool),
+)
+    ensures of_four { ⟦<(bool, bool, bool, bool) as RoundTrip>⟧.law.fits a.now }
+    ensures of_five { ⟦<(bool, bool, bool, bool, bool) as RoundTrip>⟧.law.fits b.now }
+    ensures of_six { ⟦<(bool, bool, bool, bool, bool, bool) as RoundTrip>⟧.law.fits c.now }
+    ensures of_seven { ⟦<(bool, bool, bool, bool, bool, bool, bool) as RoundTrip>⟧.law.fits d.now }
+    ensures of_eight { ⟦<(bool, bool, bool, bool, bool, bool, bool, bool) as RoundTrip>⟧.law.fits e.now }
 {}

@@ -18,8 +18,9 @@ mod tuples;
 mod types;
 
 pub use fits::{
-    boxes_fit, encodings_fit, integers_fit, items_fit, naturals_fit, ordered_values_fit,
-    required_fit, scalars_fit, strings_fit, tuples_fit, undecoded_items_fit,
+    ascending_keys_fit, bools_within_fit, boxes_fit, byte_arrays_fit, encodings_fit, integers_fit,
+    items_fit, longer_tuples_fit, naturals_fit, ordered_values_fit, required_fit, scalars_fit,
+    strings_fit, tuples_fit, undecoded_items_fit,
 };
 pub use laws::{one_value, write_and_read, written_reads_back_as};
 pub use parts::{

@@ -2,6 +2,7 @@
 #![tactic(auto)]
 
 pub mod by_hand;
+pub mod fits;
 pub mod records;
 pub mod shapes;
 pub mod user;
