@@ -22,8 +22,6 @@ pub mod lookup;
 #[cfg(test)]
 mod messages;
 #[cfg(test)]
-mod once;
-#[cfg(test)]
 mod sets;
 #[cfg(test)]
 mod sinks;

@@ -1,8 +1,13 @@
-//! A value is asked once to write itself, by each call that makes something of its document.
+//! A value is asked once to write itself, by each call that makes something of its document, counts
+//! its bytes, or builds a value of it.
 
-use cbor_convert::{to_value, to_vec_canonical};
+use cbor_convert::{
+    SerializeMap, SerializeStructVariant, SerializeTupleVariant, SerializeVec, to_value,
+    to_vec_canonical,
+};
 use cbor_forms::{to_vec_dcbor, to_vec_deterministic, to_vec_length_first};
 use cbor_io::error::Result;
+use cbor_length::encoded_len;
 use cbor_ser::{Serialize, Serializer, Write};
 use std::alloc::Global;
 use std::cell::Cell;
@@ -31,16 +36,44 @@ fn give_to_each(alloc: Global, counted: &Counted) -> Done {
     to_vec_deterministic(alloc, counted)?;
     to_vec_length_first(alloc, counted)?;
     to_vec_dcbor(alloc, counted)?;
+    encoded_len(alloc, counted)?;
     Ok(())
+}
+
+/// Gives the number to each call of the builders.
+fn build_of_each(alloc: Global, counted: &Counted) -> Done {
+    let mut list = SerializeVec::new(alloc);
+    list.serialize_element(counted)?;
+    list.serialize_field(counted)?;
+    let mut map = SerializeMap::new(alloc);
+    map.serialize_key(counted)?;
+    map.serialize_value(counted)?;
+    map.serialize_field("number", counted)?;
+    SerializeTupleVariant::new(alloc, "Pair").serialize_field(counted)?;
+    SerializeStructVariant::new(alloc, "Point").serialize_field("x", counted)?;
+    Ok(())
+}
+
+/// A number that wasn't written.
+fn unwritten() -> Counted {
+    Counted {
+        number: 42,
+        times: Cell::new(0),
+    }
 }
 
 #[test]
 fn writes_a_value_once(rt: HostRuntime) -> Done {
-    let counted = Counted {
-        number: 42,
-        times: Cell::new(0),
-    };
+    let counted = unwritten();
     give_to_each(rt.alloc(), &counted)?;
-    assert!(rt; counted.times.get() == 5);
+    assert!(rt; counted.times.get() == 6);
+    Ok(())
+}
+
+#[test]
+fn builds_of_a_value_once(rt: HostRuntime) -> Done {
+    let counted = unwritten();
+    build_of_each(rt.alloc(), &counted)?;
+    assert!(rt; counted.times.get() == 7);
     Ok(())
 }
