@@ -1,4 +1,4 @@
-pub mod Block
+pub mod BlockBytes
 pub mod Refusals
 pub mod Sent
 pub mod Steps

@@ -1,5 +1,6 @@
 -- How a call that took nothing was refused.
-use Rattle.std.proofs.Common.{◌≡◌, ℕ, ◌+◌, ◌-◌, ◌^◌, ◌<◌, ◌≤◌, List, [], length, Option}
+use Rattle.std.proofs.Common.{◌≡◌, ℕ, ◌+◌, ◌-◌, ◌^◌, ◌<◌, ◌≤◌, List, [], length}
+use Rattle.std.proofs.Common.{Option, Some, None, IfSome}
 use Rattle.std.proofs.Common.{drop, take}
 use Rattle.std.proofs.Common.{refl, sym, ap, subst, ◌∙◌, add-zero, arith}
 use Rattle.std.proofs.KnownBytes.{Consumes-nil, Consumes-kept, Keeps-refl}
@@ -10,8 +11,9 @@ use Rattle.cbor_read.specs.Source.{Input, TookKept, TookSome, Stays, IsOfSource}
 use Rattle.cbor_read.specs.Source.{RefusedByte, reader_refusals}
 use Rattle.cbor_io.specs.declared.read_error.ReadErrorCode.TheVariants.{LengthOutOfRange}
 use Rattle.cbor_io.specs.declared.read_error.ReadErrorCode.TheVariants.{Io}
-use Rattle.cbor_buffered.specs.Block.{ahead_input}
-use Rattle.cbor_buffered.proofs.Block.{some_to_come, count_ahead}
+use Rattle.cbor_io.specs.declared.read_error.ReadErrorCode.TheVariants.{EofWhileParsingValue}
+use Rattle.cbor_buffered.specs.Block.{ahead_input, RefusedHere}
+use Rattle.cbor_buffered.proofs.BlockBytes.{some_to_come, count_ahead}
 
 pub stays_kept : (s t : Input) → Stays s t → TookKept s t []
 stays_kept s t w = record {
@@ -70,4 +72,26 @@ past_offsets s rem b buffer t f start e q at last more within w = record {
   room = λ h. absurd (cc);
   ended = λ h. absurd (cc);
   memory = λ h. absurd (cc);
+}
+
+none_of_them : (a : Option (List ℕ)) (n offset at : ℕ) → 0 < n → at ≡ offset
+    → IfSome a (λ bs. bs ≡ []) → IfSome a (λ bs. (length bs < n) × (at ≡ offset + length bs))
+none_of_them None n offset at some same none = tt
+none_of_them (Some bs) n offset at some same none =
+    let len = ap length none in
+    (omega (arith, len, some), omega (arith, len, same))
+
+-- none is left, and one was wanted at least
+pub ended_here : (s t : Input) (n : ℕ) (e : ReadError) → 0 < n → why e ≡ EofWhileParsingValue
+    → place e ≡ t.offset → Stays s t → IfSome s.to_come (λ bs. bs ≡ []) → RefusedHere s t n e
+ended_here s t n e some q at w none = record {
+  refused = record {
+    code = ap reader_refusals q;
+    kind = subst IsOfSource (sym q) tt;
+    moved = stays_some s t w;
+    nowhere = λ h. absurd (subst HasNoPlace q h);
+    ended = λ h. none_of_them s.to_come n s.offset (place e) some (at ∙ w.count) none;
+    limit = λ h. absurd (cc);
+  };
+  stays = w;
 }

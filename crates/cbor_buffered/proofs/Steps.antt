@@ -5,7 +5,7 @@ use Rattle.std.proofs.Common.{length-append, arith, take, drop}
 use Rattle.std.proofs.KnownBytes.{Consumes-trans}
 use Rattle.cbor_read.specs.Source.{Input, Took, TookKept, Stays, Skipped, Buffered}
 use Rattle.cbor_buffered.specs.Block.{ahead_input}
-use Rattle.cbor_buffered.proofs.Block.{advanced, taken_length}
+use Rattle.cbor_buffered.proofs.BlockBytes.{advanced, taken_length}
 use Rattle.cbor_buffered.proofs.Refusals.{stays_kept}
 
 -- ---- more

@@ -6,16 +6,16 @@ use Rattle.cbor_io.specs.declared.read_error.ReadError.{ReadError}
 use Rattle.cbor_buffered.specs.declared.buffered_read.BufferedRead.{BufferedRead}
 
 -- the reader that it stands before
-abbrev pub held_reader : {R : Type 0} → BufferedRead R → R
+abbrev pub held_reader : {R B : Type 0} {g : _} → BufferedRead R B g → R
 held_reader s = s.reader
 
 -- the bytes of the block that were read and not taken
-abbrev pub read_ahead : {R : Type 0} → BufferedRead R → List ℕ
-read_ahead s = drop s.taken (take s.filled s.block.items)
+abbrev pub read_ahead : {R B : Type 0} {g : _} → BufferedRead R B g → List ℕ
+read_ahead {g = g} s = drop s.taken (take s.filled (g.held s.block))
 
 -- those of them that the offset can count
-abbrev pub in_block : {R : Type 0} → BufferedRead R → List ℕ
-in_block s = drop s.taken (take s.end s.block.items)
+abbrev pub in_block : {R B : Type 0} {g : _} → BufferedRead R B g → List ℕ
+in_block {g = g} s = drop s.taken (take s.end (g.held s.block))
 
 -- bytes that were read ahead, and then those that their reader has left
 abbrev pub ahead_input : List ℕ → Option (List ℕ) → List ℕ → ℕ → Input
@@ -27,7 +27,8 @@ ahead_input ahead remaining buffer offset =
       room = None;
     }
 
-abbrev pub input_of_buffered : {R : Type 0} → (R → Option (List ℕ)) → BufferedRead R → Input
+abbrev pub input_of_buffered : {R B : Type 0} {g : _} → (R → Option (List ℕ))
+    → BufferedRead R B g → Input
 input_of_buffered remaining s =
     ahead_input (read_ahead s) (remaining s.reader) s.buffer.items (s.start + s.taken)
 

@@ -1,10 +1,11 @@
 //! A reader of the standard library as a source, read ahead in blocks.
 
 ghost use Rattle.std.specs.Prelude.{◌≡◌, ◌+◌, ◌-◌, ◌^◌, ◌<◌, ◌≤◌, [], length, drop, take};
-ghost use Rattle.std.specs.Prelude.{IfSome, OnOk, OnErr, IfOk, IfErr, vec_len};
+ghost use Rattle.std.specs.Prelude.{IfSome, OnOk, OnErr, IfOk, IfErr};
 ghost use Rattle.std.specs.Io.KnownBytes.{prepend_known};
 ghost use Rattle.std.specs.Str.Lossy.{utf8_valid_len};
 
+use super::blocks::{Block, HeapBlock, InlineBlock};
 use cbor_io::utf8::from_utf8;
 use cbor_read::{EitherLifetime, Offset, Read, ReadError, ReadErrorCode, Source};
 use std::alloc::Global;
@@ -13,17 +14,15 @@ use std::{fmt, io, mem};
 // What the calls of a source answer.
 type Result<T> = std::result::Result<T, ReadError>;
 
-// How many bytes the block holds.
-const BLOCK: usize = 8192;
-
 /// The bytes that a reader gives, read ahead in blocks. What is read is lent until the next call.
 ///
-/// Where a byte is wanted and none is left, it asks its reader for 8 KiB, by one call, and goes on
-/// with what that call gave: [`IoRead`](cbor_read::IoRead) asks for each head and string. Use it
-/// for whole files, and for sockets.
+/// Where a byte is wanted and none is left, it asks its reader for a block, by one call, and goes
+/// on with what that call gave: [`IoRead`](cbor_read::IoRead) asks for each head and string. Use it
+/// for whole files, and for sockets. A block is 8 KiB of memory, which [`new`](BufferedRead::new)
+/// takes, or 1 KiB in the source itself ([`inline`](BufferedRead::inline), an [`InlineBlock`]).
 ///
-/// Up to 8 KiB that nobody asked for are gone from the reader. `into_inner` hands them back; a
-/// `Deserializer` over this source loses them with it. Take [`IoRead`](cbor_read::IoRead) where
+/// Up to a block that nobody asked for is gone from the reader. `into_inner` hands it back; a
+/// `Deserializer` over this source loses it with it. Take [`IoRead`](cbor_read::IoRead) where
 /// others go on with the reader, and where a peer waits for the answer to an item while the
 /// reader's `read` waits for all that it was asked for (that of a file or of a socket returns what
 /// is there).
@@ -46,11 +45,11 @@ const BLOCK: usize = 8192;
 /// assert_eq!(rt; reader, b"".as_slice());
 /// ```
 #[derive(Drop)]
-pub struct BufferedRead<R> {
+pub struct BufferedRead<R, B: Block = HeapBlock> {
     reader: R,
     // `block[taken..filled]` was read and is to come. The offset counts no more than those up to
     // `end`, which are all but at the last offset there is.
-    block: Vec<u8>,
+    block: B,
     taken: usize,
     end: usize,
     filled: usize,
@@ -59,20 +58,17 @@ pub struct BufferedRead<R> {
     buffer: Vec<u8>,
     ghost ordered: { taken ≤ end },
     ghost counted: { end ≤ filled },
-    ghost within: { filled ≤ vec_len block },
-    ghost room: { 0 < vec_len block },
+    ghost within: { filled ≤ B.size },
+    ghost room: { 0 < B.size },
     ghost offsets: { start + end < 2 ^ 64 },
     ghost limit: { end < filled → start + end ≡ 2 ^ 64 - 1 },
 }
 
 impl<R: io::Read> BufferedRead<R> {
-    ghost use Rattle.std.specs.Prelude.{None, Ok, ◌≢◌};
-    ghost use Rattle.cbor_io.specs.ReadError.{IsMemory, why};
-    ghost use Rattle.cbor_io.specs.declared.read_error.ReadErrorCode.TheVariants.{OutOfMemory};
-    ghost use Rattle.cbor_read.specs.Source.{start_of_reader, reader_input, Buffered, Stays};
-    ghost use Rattle.cbor_read.specs.Source.{RefusedByte, reader_refusals};
-    ghost use Rattle.cbor_buffered.specs.Block.{input_of_buffered, in_block, RefusedHere};
-    ghost use Rattle.cbor_buffered.specs.Block.{held_reader, read_ahead};
+    ghost use Rattle.std.specs.Prelude.{None};
+    ghost use Rattle.cbor_io.specs.ReadError.{IsMemory};
+    ghost use Rattle.cbor_read.specs.Source.{start_of_reader, reader_input};
+    ghost use Rattle.cbor_buffered.specs.Block.{input_of_buffered, held_reader, read_ahead};
 
     /// The bytes of this reader, none of them taken.
     ///
@@ -115,15 +111,8 @@ impl<R: io::Read> BufferedRead<R> {
         ensures ahead { IfOk result (λ s. read_ahead s ≡ []) }
         ensures err { IfErr result IsMemory }
     {
-        Ok(BufferedRead {
-            reader,
-            block: vec![in alloc; 0; BLOCK]?,
-            taken: 0,
-            end: 0,
-            filled: 0,
-            start: offset,
-            buffer: Vec::new(alloc),
-        })
+        let block = HeapBlock::new(alloc)?;
+        Ok(BufferedRead::over(alloc, reader, block, offset))
     }
 
     /// The reader, and the bytes that were read ahead of it and not taken: these come first, and
@@ -143,18 +132,67 @@ impl<R: io::Read> BufferedRead<R> {
     {
         let BufferedRead {
             reader,
-            mut block,
+            block,
             taken,
             filled,
             ..
         } = self;
-        block.truncate(filled);
-        block.drain(..taken);
-        (reader, block)
+        let mut ahead = block.into_vec();
+        ahead.truncate(filled);
+        ahead.drain(..taken);
+        (reader, ahead)
+    }
+}
+
+impl<R: io::Read> BufferedRead<R, InlineBlock> {
+    ghost use Rattle.cbor_read.specs.Source.{start_of_reader};
+    ghost use Rattle.cbor_buffered.specs.Block.{input_of_buffered};
+
+    /// The bytes of this reader, none of them taken, read ahead into a block of 1 KiB in the source
+    /// itself: it takes no memory, and so can't fail.
+    ///
+    /// ```rust
+    /// let mut source = BufferedRead::inline(alloc, b"\x18\x2a".as_slice());
+    /// assert_eq!(rt; source.next()?, Some(0x18));
+    /// assert_eq!(rt; source.offset(), 1);
+    /// ```
+    pub fn inline(alloc: Global, reader: R) -> BufferedRead<R, InlineBlock>
+        ensures { input_of_buffered R.remaining result ≡ start_of_reader (R.remaining reader) }
+    {
+        BufferedRead::over(alloc, reader, InlineBlock::new(), 0)
+    }
+}
+
+impl<R: io::Read, B: Block> BufferedRead<R, B> {
+    ghost use Rattle.std.specs.Prelude.{None, Ok, ◌≢◌};
+    ghost use Rattle.cbor_io.specs.ReadError.{why};
+    ghost use Rattle.cbor_io.specs.declared.read_error.ReadErrorCode.TheVariants.{OutOfMemory};
+    ghost use Rattle.cbor_read.specs.Source.{reader_input, Buffered, Stays};
+    ghost use Rattle.cbor_read.specs.Source.{RefusedByte, reader_refusals};
+    ghost use Rattle.cbor_buffered.specs.Block.{input_of_buffered, in_block, RefusedHere};
+    ghost use Rattle.cbor_buffered.specs.Block.{held_reader, read_ahead};
+
+    // The bytes of this reader, read into this block. The first stands at this offset.
+    #[inline(always)]
+    fn over(alloc: Global, reader: R, block: B, offset: u64) -> BufferedRead<R, B>
+        ensures ok { input_of_buffered R.remaining result
+            ≡ reader_input None (R.remaining reader) [] offset }
+        ensures reader { held_reader result ≡ reader }
+        ensures ahead { read_ahead result ≡ [] }
+    {
+        BufferedRead {
+            reader,
+            block,
+            taken: 0,
+            end: 0,
+            filled: 0,
+            start: offset,
+            buffer: Vec::new(alloc),
+        }
     }
 
-    // Reads a block, where no byte of the last is left. The offset may be too high to count all that
-    // came.
+    // Reads a block, where no byte of the last is left. The offset may be too high to count all
+    // that came.
     fn read_block(&mut self) -> Result<()>
         requires { self.old.filled ≤ self.old.taken }
         ensures stays { OnOk result (Stays (input_of_buffered R.remaining self.old)
@@ -164,7 +202,7 @@ impl<R: io::Read> BufferedRead<R> {
         ensures err { IfErr result (RefusedByte reader_refusals
             (input_of_buffered R.remaining self.old) (input_of_buffered R.remaining self.new)) }
     {
-        let count = self.reader.read(&mut self.block)?;
+        let count = self.block.read_from(&mut self.reader)?;
         self.start += self.end as u64;
         self.end = count.min((u64::MAX - self.start) as usize);
         self.filled = count;
@@ -241,13 +279,14 @@ impl<R: io::Read> BufferedRead<R> {
     {
         let count = self.wanted(most)?;
         let end = self.taken + count;
-        self.buffer.extend_from_slice(&self.block[self.taken..end])?;
+        self.buffer
+            .extend_from_slice(&self.block.bytes()[self.taken..end])?;
         self.taken = end;
         Ok(count)
     }
 }
 
-impl<R: io::Read> Source for BufferedRead<R> {
+impl<R: io::Read, B: Block> Source for BufferedRead<R, B> {
     ghost use Rattle.std.specs.Prelude.{false};
     ghost use Rattle.cbor_read.specs.Source.{reader_refusals, first_of};
     ghost use Rattle.cbor_buffered.specs.Block.{input_of_buffered, in_block};
@@ -277,7 +316,7 @@ impl<R: io::Read> Source for BufferedRead<R> {
 
     #[inline(always)]
     fn ahead(&self) -> &[u8] {
-        &self.block[self.taken..self.end]
+        &self.block.bytes()[self.taken..self.end]
     }
 
     #[inline(always)]
@@ -354,13 +393,13 @@ impl<R: io::Read> Source for BufferedRead<R> {
     }
 }
 
-impl<'de, R: io::Read> Read<'de> for BufferedRead<R> {
+impl<'de, R: io::Read, B: Block> Read<'de> for BufferedRead<R, B> {
     fn read<'a>(&'a mut self, n: usize) -> Result<EitherLifetime<'a, 'de>> {
         if n <= self.end - self.taken {
             let start = self.taken;
             self.taken += n;
             let whole = &*self;
-            return Ok(EitherLifetime::Short(&whole.block[start..start + n]));
+            return Ok(EitherLifetime::Short(&whole.block.bytes()[start..start + n]));
         }
         self.buffer.clear();
         self.read_to_buffer(n)?;
@@ -372,14 +411,14 @@ impl<'de, R: io::Read> Read<'de> for BufferedRead<R> {
     }
 }
 
-impl<R: io::Read> Offset for BufferedRead<R> {
+impl<R: io::Read, B: Block> Offset for BufferedRead<R, B> {
     fn byte_offset(&self) -> usize {
         (self.start + self.taken as u64) as usize
     }
 }
 
 // How many of these bytes, from the front, are UTF-8.
-#[tactic(auto, using(crate::proofs::Block::all_valid))]
+#[tactic(auto, using(crate::proofs::BlockBytes::all_valid))]
 fn valid_in(bytes: &[u8]) -> usize
     ensures { result ≡ utf8_valid_len bytes.now }
 {
@@ -390,7 +429,7 @@ fn valid_in(bytes: &[u8]) -> usize
 }
 
 // Neither the input nor the reader is printed: what they hold may be no reader's to see.
-impl<R> fmt::Debug for BufferedRead<R> {
+impl<R, B: Block> fmt::Debug for BufferedRead<R, B> {
     fn fmt<W: fmt::Write>(&self, f: &mut fmt::Formatter<W>) -> fmt::Result {
         f.debug_struct("BufferedRead")
             .field("offset", &(self.start + self.taken as u64))

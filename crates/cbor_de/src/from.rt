@@ -23,8 +23,9 @@ ghost use Rattle.cbor_de.specs.Calls as call;
 
 use crate::de::Deserializer;
 use crate::deserialize::{Deserialize, DeserializeOwned};
+use cbor_buffered::{BufferedRead, InlineBlock};
 use cbor_io::error::Result;
-use cbor_read::{IoRead, MutSliceRead, Read, SliceRead, SliceReadFixed, VecRead};
+use cbor_read::{MutSliceRead, Read, SliceRead, SliceReadFixed, VecRead};
 use std::alloc::Global;
 use std::io;
 
@@ -273,6 +274,10 @@ pub fn from_vec<'de, T: DeserializeOwned + Deserialize<'de, VecRead>>(
 /// to the reader's end, and takes memory only for bytes that came, also for a `char` and a
 /// `ByteArray`.
 ///
+/// It asks its reader for 1 KiB at a time, which stands on the stack: no `BufReader` is needed.
+/// After a refusal up to 1 KiB that wasn't decoded is gone from the reader. Where others go on with
+/// the reader, take [`Deserializer::from_reader`], which takes no byte that it doesn't need.
+///
 /// It refuses as `from_slice` does, with `Io` where the reader reports a fault (an interrupted read
 /// is one), and with `LengthOutOfRange` where it gives 2^64 bytes and more.
 ///
@@ -286,10 +291,10 @@ pub fn from_vec<'de, T: DeserializeOwned + Deserialize<'de, VecRead>>(
 /// ```rust,compile_fail
 /// let text: &str = from_reader(alloc, b"\x61a".as_slice())?;
 /// ```
-pub fn from_reader<'de, T: DeserializeOwned + Deserialize<'de, IoRead<R>>, R: io::Read + Drop>(
-    alloc: Global,
-    reader: R,
-) -> Result<T>
+pub fn from_reader<'de, T, R>(alloc: Global, reader: R) -> Result<T>
+where
+    T: DeserializeOwned + Deserialize<'de, BufferedRead<R, InlineBlock>>,
+    R: io::Read + Drop,
     // Of a reader that reports its bytes, fewer than 2^64, however it gives them:
     ensures found { (bytes : List ℕ) → Gave (R.remaining reader) bytes
         → IfOk result (SpellsAs all_formats (T.reads from_reader_context) bytes) }
@@ -319,5 +324,5 @@ pub fn from_reader<'de, T: DeserializeOwned + Deserialize<'de, IoRead<R>>, R: io
     ensures form { IfErr result (MayReport T.wrong_forms all_formats
         (start_of_reader (R.remaining reader))) }
 {
-    read_all(alloc, IoRead::new(alloc, reader))
+    read_all(alloc, BufferedRead::inline(alloc, reader))
 }

@@ -3,7 +3,8 @@
 //!
 //! [`from_slice`] joins strings in chunks in memory, [`from_slice_with_scratch`] in a scratch of
 //! the caller's, and [`from_mut_slice`] in the slice itself; [`from_reader`] takes its bytes from
-//! any reader. All four return the same `Value`; what is borrowed depends on what the source lends.
+//! any reader, and reads ahead. All four return the same `Value`; what is borrowed depends on what
+//! the source lends.
 //!
 //! A type says which items it reads, and as what ([`Readable`]); [`Deserialize`] reads them. A
 //! `Value` is read from any item.

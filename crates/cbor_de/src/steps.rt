@@ -3,10 +3,10 @@
 //! [`SeqAccess`](crate::SeqAccess) and [`VariantAccess`](crate::VariantAccess), which keep count of
 //! the levels.
 
-ghost use Rattle.std.specs.Prelude.{◌≡◌, ◌<◌, [], ◌∷◌, codes, length, take};
+ghost use Rattle.std.specs.Prelude.{◌≡◌, ◌^◌, ◌<◌, [], ◌∷◌, codes, length, take};
 ghost use Rattle.std.specs.Prelude.{IfOk, IfErr, IfSome, MatchOption, Ok, OnOk, OnErr, OnSome};
 ghost use Rattle.cbor_io.specs.Error.{code_of};
-ghost use Rattle.cbor_read.specs.Source.{RefusedByte, Stays};
+ghost use Rattle.cbor_read.specs.Source.{Input, RefusedByte, Stays, TookKept};
 ghost use Rattle.cbor_decode.specs.Decoder.{SameSettings};
 ghost use Rattle.cbor_decode.specs.Gives.{IsErrorOf, ReportsNoForm};
 ghost use Rattle.cbor_decode.specs.declared.head.Head.TheVariants as kind;
@@ -22,12 +22,17 @@ ghost use Rattle.cbor_decode_as.specs.Enums.{IsNothing};
 ghost use Rattle.cbor_decode_as.specs.MapAccesses.{TakesMapEnd, TakesMapHead};
 ghost use Rattle.cbor_decode_as.specs.Variants.{IsEntered, IsInside, TakesContent, TakesParts};
 ghost use Rattle.cbor_decode_as.specs.Variants.{TakesVariant, ReportsAlone, alone_text};
+ghost use Rattle.cbor_pushed.specs.ItemAtFront.{HasNoItem};
+ghost use Rattle.cbor_pushed.specs.Scanned.{Follows};
+ghost use Rattle.cbor_raw.specs.Gathered.{GathersNone, TakesMore};
 ghost use Rattle.cbor_de.specs.Calls as call;
 
 use crate::de::Deserializer;
 use cbor_decode::Remaining;
 use cbor_decode_as::variant::Form;
 use cbor_io::error::{Error, Result};
+use cbor_pushed::Scan;
+use cbor_raw::gather;
 use cbor_read::{Read, ReadError, Source};
 
 // ---- one byte
@@ -195,4 +200,35 @@ pub fn no_part<R: Source>(de: &mut Deserializer<R>, form: Form) -> Result<()>
     ensures settings { SameSettings de.old.decoder de.new.decoder }
 {
     cbor_decode_as::content::no_part(&mut de.decoder, form)
+}
+
+// ---- items that stay undecoded
+
+/// The offset of the next byte.
+pub fn offset<R: Source>(de: &Deserializer<R>) -> u64
+    ensures { result ≡ (R.source de.now.decoder.source).offset }
+{
+    de.decoder.source.offset()
+}
+
+/// Takes one more byte of the item at the front, behind these, of which the first stands at this
+/// offset: whether the item is whole then. The scan is what has gone through the bytes so far.
+pub fn take_more<R: Source>(
+    de: &mut Deserializer<R>,
+    start: u64,
+    bytes: &mut Vec<u8>,
+    scan: &mut Scan,
+) -> Result<bool>
+    requires follows { Follows de.old.decoder.levels scan.old bytes.old.items }
+    requires none { HasNoItem de.old.decoder.levels bytes.old.items }
+    ensures ok { IfOk result (TakesMore de.old.decoder.levels (R.source de.old.decoder.source)
+        (R.source de.new.decoder.source) bytes.old.items bytes.new.items) }
+    ensures follows { OnOk result (Follows de.old.decoder.levels scan.new bytes.new.items) }
+    ensures counted { OnOk result ((R.source de.new.decoder.source).offset < 2 ^ 64) }
+    ensures err { (s : Input) → TookKept s (R.source de.old.decoder.source) bytes.old.items
+        → IfErr result (GathersNone R.refusals de.old.decoder.levels s
+        (R.source de.new.decoder.source)) }
+    ensures settings { SameSettings de.old.decoder de.new.decoder }
+{
+    gather::take_more(&mut de.decoder, start, bytes, scan)
 }

@@ -1,5 +1,5 @@
 -- The bytes of an item, taken one by one.
-use Rattle.std.proofs.Common.{◌≡◌, ◌∙◌, ◌⊎◌, ◌+◌, ◌<◌, ◌^◌, ℕ, Bool, true, List, [], ◌∷◌, ◌++◌, length, Option, IfSome, Err, refl, sym, ap, subst, arith, inl, inr, append-nil, length-append}
+use Rattle.std.proofs.Common.{◌≡◌, ◌∙◌, ◌⊎◌, ◌+◌, ◌<◌, ◌^◌, ℕ, Bool, true, List, [], ◌∷◌, ◌++◌, length, Option, Some, None, IfSome, Ok, Err, is_some, refl, sym, ap, subst, arith, inl, inr, append-nil, length-append}
 use Rattle.std.proofs.KnownBytes.{Consumes-trans}
 use Rattle.cbor_model.specs.Allowed.{IsEnd}
 use Rattle.cbor_model.specs.Formats.{Formats}
@@ -15,11 +15,11 @@ use Rattle.cbor_decode.specs.Gives.{Limits, Reports, ReportsIo, limits}
 use Rattle.cbor_decode.proofs.facts.Steps.{taken_step, took_same, took_stays}
 use Rattle.cbor_decode_as.specs.RawItems.{FindsEnd}
 use Rattle.cbor_decode_as.specs.Takes.{ExcusedBy, IsNotRead, Refuses, raws}
-use Rattle.cbor_pushed.specs.ItemAtFront.{HasItem, HasNoItem, IsRefused}
+use Rattle.cbor_pushed.specs.ItemAtFront.{FindsItem, HasItem, HasNoItem, IsRefused, IsUnfinished}
 use Rattle.cbor_pushed.specs.Scanned.{Follows}
 use Rattle.cbor_pushed.specs.declared.scan.Scan.{Scan}
 use Rattle.cbor_pushed.proofs.facts.Scans.{end_category, ends_last, follows_more}
-use Rattle.cbor_raw.specs.Gathered.{GathersNone, GathersUnread, IsBytesOf, IsExcused, IsGathered, ReadsNone, TakesByte}
+use Rattle.cbor_raw.specs.Gathered.{GathersNone, GathersUnread, IsBytesOf, IsExcused, IsGathered, ReadsNone, TakesByte, TakesMore}
 use Rattle.cbor_raw.proofs.Kept.{none_gathered}
 use Rattle.cbor_raw.proofs.Unread.{none_behind, none_here}
 
@@ -42,15 +42,17 @@ module _ (t u : Input) (old new : List ℕ) (came : TakesByte t u old new true) 
     scan_follows levels scan h = subst (Follows levels scan) (sym (seen ∙ came.1.1)) (follows_more levels scan old (came.0 ∷ []) h)
 
     -- it makes an item whole
-    pub gathered : (s : Input) (levels end : ℕ) → TookKept s t old → HasNoItem levels old → HasItem levels front end → IsGathered levels s u new
-    gathered s levels end h none found =
+    ends_whole : (levels end : ℕ) → HasNoItem levels old → HasItem levels front end → HasItem levels new (length new)
+    ends_whole levels end none found =
         let all = subst (λ (l : List ℕ). HasItem levels l end) (seen ∙ came.1.1) found in
         let last = ends_last levels came.0 end old none all in
         let item = subst (λ (l : List ℕ). HasItem levels l end) seen found in
-        record {
-          took = took_more s h;
-          item = subst (HasItem levels new) (last ∙ ap length (sym came.1.1)) item;
-        }
+        subst (HasItem levels new) (last ∙ ap length (sym came.1.1)) item
+
+    -- or not
+    pub takes_more : (levels : ℕ) (o : Option ℕ) → HasNoItem levels old → FindsItem levels front (Ok o) → TakesMore levels t u old new (is_some o)
+    takes_more levels None none found = record { took = came; item = subst (IsUnfinished levels) seen found }
+    takes_more levels (Some end) none found = record { took = came; item = ends_whole levels end none found }
 
 -- memory ran out; the error is the same, further on
 excused_memory : (allowed : ReadErrorCode → Bool) (found e : Error) → IsOutOfMemory found → (HasNoOffset (code_of found) → e ≡ found) → ExcusedBy (ReportsIo allowed) (code_of e) (offset_of e)

@@ -2,3 +2,4 @@ mod Alone
 mod Unread
 mod Kept
 pub mod Gathering
+pub mod facts

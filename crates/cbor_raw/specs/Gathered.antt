@@ -12,7 +12,7 @@ use Rattle.cbor_io.specs.Error.{code_of, offset_of}
 use Rattle.cbor_read.specs.Source.{Input, Stays, TookKept}
 use Rattle.cbor_decode.specs.Gives.{Limits}
 use Rattle.cbor_decode_as.specs.Takes.{Refuses}
-use Rattle.cbor_pushed.specs.ItemAtFront.{HasItem, HasNoItem}
+use Rattle.cbor_pushed.specs.ItemAtFront.{HasItem, HasNoItem, IsUnfinished}
 
 -- Exactly these bytes were taken, and they are one acceptable item, which may have so many levels.
 pub record IsGathered (levels : ℕ) (s t : Input) (bytes : List ℕ) : Type 0 where
@@ -25,13 +25,18 @@ abbrev pub GathersNone : (ReadErrorCode → Bool) → ℕ → Input → Input �
 GathersNone refusals levels s t e =
     Refuses refusals s t (code_of e) (offset_of e) (λ l bs. HasNoItem levels bs)
 
+-- the same, by lack of memory or a fault of the device alone
+abbrev pub IsExcused : (ReadErrorCode → Bool) → Input → Input → Error → Type 0
+IsExcused refusals s t e = Refuses refusals s t (code_of e) (offset_of e) (λ l bs. ⊥)
+
 -- The reference reader reads no item of these bytes, whichever formats are read and however long a
 -- scratch is.
 abbrev pub ReadsNone : ℕ → Limits → List ℕ → Type 0
 ReadsNone levels l bs = (f : Formats) (most : Option ℕ) (r : Raw) (rest : List ℕ)
     → ¬ (item_at (raws_in f l.total most) levels bs ≡ Ok (r, rest))
 
--- the same as of what is gathered, but that none is read
+-- Some of the bytes to come were taken; and memory ran out, or the device has a fault, or the
+-- reference reader reads no item of those that were to come.
 abbrev pub GathersUnread : (ReadErrorCode → Bool) → ℕ → Input → Input → Error → Type 0
 GathersUnread refusals levels s t e =
     Refuses refusals s t (code_of e) (offset_of e) (ReadsNone levels)
@@ -40,12 +45,18 @@ GathersUnread refusals levels s t e =
 abbrev pub IsBytesOf : Raw → List ℕ → Type 0
 IsBytesOf r bytes = Encodes bytes r
 
--- the same, by lack of memory or a fault of the device alone
-abbrev pub IsExcused : (ReadErrorCode → Bool) → Input → Input → Error → Type 0
-IsExcused refusals s t e = Refuses refusals s t (code_of e) (offset_of e) (λ l bs. ⊥)
-
 -- The next byte was taken and put behind these; or none was to come.
 abbrev pub TakesByte : Input → Input → List ℕ → List ℕ → Bool → Type 0
 TakesByte s t old new true = (b : ℕ) × (TookKept s t (b ∷ []) × (new ≡ old ++ (b ∷ [])))
 TakesByte s t old new false =
     Stays s t × IfSome s.to_come (λ bs. bs ≡ []) × (new ≡ old)
+
+-- The item is whole with the bytes; or they are the front of one, for all that they show.
+abbrev pub IsWhole : ℕ → List ℕ → Bool → Type 0
+IsWhole levels bytes true = HasItem levels bytes (length bytes)
+IsWhole levels bytes false = IsUnfinished levels bytes
+
+-- The next byte was taken and put behind these, and it is said whether the item is whole with it.
+pub record TakesMore (levels : ℕ) (s t : Input) (old new : List ℕ) (whole : Bool) : Type 0 where
+  pub took : TakesByte s t old new true
+  pub item : IsWhole levels new whole

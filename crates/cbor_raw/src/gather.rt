@@ -3,9 +3,12 @@
 ghost use Rattle.std.specs.Prelude.{◌≡◌, ◌+◌, ◌-◌, ◌^◌, ◌<◌, min, IfErr, IfOk, OnOk};
 ghost use Rattle.cbor_model.specs.Raw.{AreBytes};
 ghost use Rattle.cbor_io.specs.Error.{HasNoOffset, code_of, offset_of};
+ghost use Rattle.cbor_read.specs.Source.{Input, TookKept};
 ghost use Rattle.cbor_decode.specs.Decoder.{SameSettings};
+ghost use Rattle.cbor_pushed.specs.ItemAtFront.{HasNoItem};
+ghost use Rattle.cbor_pushed.specs.Scanned.{Follows};
 ghost use Rattle.cbor_raw.specs.Gathered.{GathersNone, GathersUnread, IsExcused, IsGathered};
-ghost use Rattle.cbor_raw.specs.Gathered.{TakesByte};
+ghost use Rattle.cbor_raw.specs.Gathered.{TakesByte, TakesMore};
 
 use cbor_decode::Decoder;
 use cbor_io::error::{Error, ErrorCode, Result};
@@ -27,22 +30,53 @@ pub fn gather<R: Source>(decoder: &mut Decoder<R>) -> Result<Vec<u8>>
         (R.source decoder.old.source) (R.source decoder.new.source)) }
     ensures settings { SameSettings decoder.old decoder.new }
 {
-    let alloc = decoder.alloc;
-    let levels = decoder.levels as usize;
     let start = decoder.source.offset();
-    let mut bytes = Vec::new(alloc);
-    let mut scan = Scan::new(alloc);
+    let mut bytes = Vec::new(decoder.alloc);
+    let mut scan = Scan::new(decoder.alloc);
     'bytes: loop {
-        match take_byte(decoder, &mut bytes) {
-            Ok(true) => {}
-            Ok(false) => return Err(further(end_of_input(alloc, shown(&bytes), levels), start)),
+        match take_more(decoder, start, &mut bytes, &mut scan) {
+            Ok(true) => return Ok(bytes),
+            Ok(false) => {}
             Err(error) => return Err(error),
         }
-        match scan.find(alloc, shown(&bytes), levels) {
-            Ok(Some(_)) => return Ok(bytes),
-            Ok(None) => {}
-            Err(error) => return Err(further(error, start)),
-        }
+    }
+}
+
+/// Takes one more byte of the item at the front, behind these, of which the first stands at this
+/// offset: whether the item is whole then.
+///
+/// It is refused as by [`gather`]. The scan is what has gone through the bytes so far.
+pub fn take_more<R: Source>(
+    decoder: &mut Decoder<R>,
+    start: u64,
+    bytes: &mut Vec<u8>,
+    scan: &mut Scan,
+) -> Result<bool>
+    requires follows { Follows decoder.old.levels scan.old bytes.old.items }
+    requires none { HasNoItem decoder.old.levels bytes.old.items }
+    ensures ok { IfOk result (TakesMore decoder.old.levels
+        (R.source decoder.old.source) (R.source decoder.new.source)
+        bytes.old.items bytes.new.items) }
+    ensures follows { OnOk result (Follows decoder.old.levels scan.new bytes.new.items) }
+    ensures counted { OnOk result ((R.source decoder.new.source).offset < 2 ^ 64) }
+    ensures err { (s : Input) → TookKept s (R.source decoder.old.source) bytes.old.items
+        → IfErr result (GathersNone R.refusals decoder.old.levels s
+        (R.source decoder.new.source)) }
+    ensures unread { (s : Input) → TookKept s (R.source decoder.old.source) bytes.old.items
+        → IfErr result (GathersUnread R.refusals decoder.old.levels s
+        (R.source decoder.new.source)) }
+    ensures settings { SameSettings decoder.old decoder.new }
+{
+    let alloc = decoder.alloc;
+    let levels = decoder.levels as usize;
+    match take_byte(decoder, bytes) {
+        Ok(true) => {}
+        Ok(false) => return Err(further(end_of_input(alloc, shown(bytes), levels), start)),
+        Err(error) => return Err(error),
+    }
+    match scan.find(alloc, shown(bytes), levels) {
+        Ok(end) => Ok(end.is_some()),
+        Err(error) => Err(further(error, start)),
     }
 }
 

@@ -1,6 +1,8 @@
 pub mod Walking
 pub mod Walked
 pub mod Told
+pub mod Extended
+pub mod Shown
 pub mod Followed
 pub mod ChunkSteps
 pub mod MetKeys
@@ -8,6 +10,7 @@ pub mod Kept
 pub mod Reading
 pub mod CheckedFirst
 pub mod Fronts
+pub mod RawByRules
 pub mod ItemsTaken
 pub mod Canonical
 pub mod CanonicalKeys

@@ -27,7 +27,7 @@ item_answers sought bs r fits is =
     )
 
 -- the first of the places that is looked for is the first departure
-found_departure : (terms : Terms) (ps : List Place) → found_in (departure_from terms) ps ≡ departure_in terms ps
+pub found_departure : (terms : Terms) (ps : List Place) → found_in (departure_from terms) ps ≡ departure_in terms ps
 found_departure terms [] = refl
 found_departure terms (p ∷ ps) = ap (λ (o : Option Departure). departure_or p.offset o (broken terms p.feature)) (found_departure terms ps)
 

@@ -10,3 +10,4 @@ pub mod Texts
 pub mod Presets
 pub mod Unique
 pub mod Limits
+pub mod RawByRules

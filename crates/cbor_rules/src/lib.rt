@@ -3,7 +3,8 @@
 //! The ordinary reader reads; a walk over the same bytes then looks for the first departure from
 //! the rules that are on, without memory but for keys that may stand in any order once. Limits are
 //! rules too: the most items of an array, pairs of a map and bytes of a string. Where no memory is
-//! to be taken for an item that departs, the bytes are gone over first, and then read.
+//! to be taken for an item that departs, the bytes are gone over first, and then read; those of a
+//! reader, while they come.
 #![tactic(auto)]
 
 mod answers;
@@ -16,6 +17,7 @@ mod heads;
 mod items;
 mod keys;
 mod laws;
+mod raw;
 mod settings;
 mod texts;
 mod walk;
@@ -32,4 +34,5 @@ pub use laws::{
     none_where_kept, presets, reduced_has_reduced_numbers, shortened_has_shortest_floats,
     type_first_is_bytewise, unique_keys_are_kept,
 };
+pub use raw::{next_raw_item, next_raw_item_with_tags};
 pub use settings::{KeyOrder, Rule, Rules};

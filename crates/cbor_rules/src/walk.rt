@@ -4,8 +4,9 @@
 //! map apart: other rules take no memory. A string is passed in one step, and the key of a pair is
 //! compared with the one before it by the bytes of both.
 
-ghost use Rattle.std.specs.Prelude.{◌≡◌, ◌&&◌, ◌-◌, ◌/◌, ◌%◌, ◌<◌, ◌≤◌, [], length, take, IsTrue};
-ghost use Rattle.std.specs.Prelude.{IfErr, IfOk, IfSome, MatchOption, OnErr, if◌then◌else◌, true};
+ghost use Rattle.std.specs.Prelude.{◌≡◌, ◌&&◌, ◌-◌, ◌/◌, ◌%◌, ◌<◌, ◌≤◌, ◌++◌, ℕ, List, [], length};
+ghost use Rattle.std.specs.Prelude.{take, IsTrue, Some, IfErr, IfOk, IfSome, MatchOption, OnErr};
+ghost use Rattle.std.specs.Prelude.{if◌then◌else◌, true};
 ghost use Rattle.cbor_model.specs.Raw.{Raw, IsWellFormed, half, single, double, undefined_item};
 ghost use Rattle.cbor_model.specs.Spelling.{spell};
 ghost use Rattle.cbor_rules.specs.Features.{simple_item};
@@ -42,7 +43,8 @@ pub enum Walk {
 }
 
 /// The first departure of the item that the bytes encode, if there is one, where these tags stand
-/// that the rules refuse otherwise. Of other bytes nothing is said.
+/// that the rules refuse otherwise; or that the bytes show of an item that they begin. Of other
+/// bytes nothing is said.
 ///
 /// Memory runs out only where each value may be a key once and the item has a key.
 pub(crate) fn first_departure(
@@ -53,6 +55,9 @@ pub(crate) fn first_departure(
 ) -> Result<Option<Departure>>
     ensures first { (r : Raw) → IsWellFormed r → spell r ≡ bytes.now
         → IfOk result (λ departure. departure ≡ first_departure (under rules tags.now) r) }
+    ensures shown { (r : Raw) (more : List ℕ) → IsWellFormed r → spell r ≡ bytes.now ++ more
+        → IfOk result (λ departure. IfSome departure
+        (λ d. first_departure (under rules tags.now) r ≡ Some d)) }
     ensures within { IfOk result
         (λ departure. IfSome departure (λ d. d.offset ≤ length bytes.now)) }
     ensures memory { IfErr result IsOutOfMemory }

@@ -8,7 +8,7 @@ use pieces::Sevens;
 use samples::enums::Color;
 use samples::structs::SmallStruct;
 use serde_cbor::de::{
-    BufferedRead, Deserialize, DeserializeOwned, Deserializer, IoRead, SliceRead,
+    BufferedRead, Deserialize, DeserializeOwned, Deserializer, InlineBlock, SliceRead,
 };
 use serde_cbor::ser::{BufferedWrite, IoWrite, Serialize, to_vec_packed};
 use serde_cbor::{Result, from_reader, from_slice, to_vec, to_writer};
@@ -126,8 +126,8 @@ where
     T: Serialize
         + DeserializeOwned
         + Deserialize<'a, SliceRead<'a>>
-        + Deserialize<'a, IoRead<BufReader<&'a [u8]>>>
-        + Deserialize<'a, IoRead<Sevens<'a>>>
+        + Deserialize<'a, BufferedRead<BufReader<&'a [u8]>, InlineBlock>>
+        + Deserialize<'a, BufferedRead<Sevens<'a>, InlineBlock>>
         + Deserialize<'a, BufferedRead<&'a [u8]>>,
 {
     let mut written = 0;
@@ -154,7 +154,7 @@ fn through_writer<'a, T: Deserialize<'a, SliceRead<'a>> + Serialize>(
     let list: Vec<T> = from_slice(alloc, item)?;
     let mut bytes = Vec::new(alloc);
     let mut writer = BufWriter::new(alloc, &mut bytes)?;
-    to_writer(alloc, &mut IoWrite::new(&mut writer), &list)?;
+    to_io_writer(alloc, &mut writer, &list)?;
     writer.flush()?;
     drop(writer);
     Ok(bytes.len())

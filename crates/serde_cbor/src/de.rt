@@ -3,7 +3,7 @@
 //! ([`read_described`]), or part by part ([`Deserialize`]). Where bytes come in pieces,
 //! [`PushedItems`] says when the next item is whole.
 
-pub use cbor_buffered::BufferedRead;
+pub use cbor_buffered::{Block, BufferedRead, HeapBlock, InlineBlock};
 pub use cbor_de::{
     Deserialize, DeserializeOwned, Deserializer, EitherLifetime, EitherStr, Field, FieldType,
     Formats, IgnoredAny, IoRead, MapAccess, MutSliceRead, Offset, Read, ReadError, ReadErrorCode,

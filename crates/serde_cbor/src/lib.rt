@@ -12,7 +12,7 @@
 //!
 //! - [`de`], [`stream`], [`strict`]: reading; [`ser`]: writing
 //! - [`rules`]: reading by rules of your own, each a switch, or by the form that a name stands for:
-//!   a whole slice, or items one after the other
+//!   a whole slice, items one after the other, or what a reader gives, as it comes
 //! - [`value`]: `Value`, `Map`, `Float`, and the way between a value and a type
 //! - [`parts`]: the description by which a struct or an enum of yours is read and written;
 //!   [`round_trip`]: the law that it is read back
@@ -63,5 +63,6 @@ pub use cbor_strict as strict;
 pub use cbor_strict::{from_slice_canonical, from_slice_canonical_as};
 pub use cbor_value::raw_value::{RawSlice, RawValue};
 pub use cbor_value::{Value, bytes};
+pub use cbor_writer::to_io_writer;
 
 pub mod value;

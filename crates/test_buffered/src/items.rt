@@ -12,9 +12,9 @@ use std::process::Abort;
 use test_checks::{Done, is_refused};
 
 // How many bytes a reader gives a call.
-const PIECES: [usize; 3] = [1, 7, 10_000];
+pub const PIECES: [usize; 3] = [1, 7, 10_000];
 
-const EXAMPLES: [(&[u8], &str); 9] = [
+pub const EXAMPLES: [(&[u8], &str); 9] = [
     (b"\x19\x03\xe8", "1000"),
     (
         b"\x3b\xff\xff\xff\xff\xff\xff\xff\xff",

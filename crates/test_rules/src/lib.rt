@@ -16,6 +16,8 @@ mod keys;
 #[cfg(test)]
 mod limits;
 #[cfg(test)]
+mod raw;
+#[cfg(test)]
 mod rules;
 #[cfg(test)]
 mod tags;

@@ -17,7 +17,7 @@ pub returns-clause-found : goal.returns-clause-found
 returns-clause-found g c = λ bs gave.
     let s = start_of_reader (g.R.Read.remaining c.args.reader) in
     let reads = g.T.Readable.reads from_reader_context in
-    let given = subst (λ (s : Input). ReadsAll reader_refusals all_formats reads max_depth s c.read_all.result) c.new.ensures c.read_all.ensures.read in
+    let given = subst (λ (s : Input). ReadsAll reader_refusals all_formats reads max_depth s c.read_all.result) c.inline.ensures c.read_all.ensures.read in
     let reports : Reports s bs = record { is = gave.reported; short = omega (arith, gave.short) } in
     found reader_refusals all_formats reads s bs reports refl gave.are_bytes c.read_all.result given
 
@@ -25,7 +25,7 @@ pub returns-clause-accepted : goal.returns-clause-accepted
 returns-clause-accepted g c = λ bs gave x spelt.
     let s = start_of_reader (g.R.Read.remaining c.args.reader) in
     let reads = g.T.Readable.reads from_reader_context in
-    let given = subst (λ (s : Input). ReadsAll reader_refusals all_formats reads max_depth s c.read_all.result) c.new.ensures c.read_all.ensures.read in
+    let given = subst (λ (s : Input). ReadsAll reader_refusals all_formats reads max_depth s c.read_all.result) c.inline.ensures c.read_all.ensures.read in
     let reports : Reports s bs = record { is = gave.reported; short = omega (arith, gave.short) } in
     accepted_or_fault reader_refusals all_formats reads s bs reports refl gave.are_bytes x spelt tt c.read_all.result given
 
@@ -33,23 +33,23 @@ pub returns-clause-fault : goal.returns-clause-fault
 returns-clause-fault g c = λ bs gave.
     let s = start_of_reader (g.R.Read.remaining c.args.reader) in
     let reports : Reports s bs = record { is = gave.reported; short = omega (arith, gave.short) } in
-    let given = subst (λ (s : Input). IfErr c.read_all.result (ReportsWhole g.T.Readable.passes_over g.T.Readable.total reader_refusals all_formats (g.T.Readable.reads from_reader_context) max_depth s)) c.new.ensures c.read_all.ensures.fault in
+    let given = subst (λ (s : Input). IfErr c.read_all.result (ReportsWhole g.T.Readable.passes_over g.T.Readable.total reader_refusals all_formats (g.T.Readable.reads from_reader_context) max_depth s)) c.inline.ensures c.read_all.ensures.fault in
     passed_over_by_reader g.T.Readable.passes_over g.T.Readable.total reader_refusals (g.T.Readable.reads from_reader_context) s bs reports refl gave.are_bytes c.read_all.result given
 
 pub returns-clause-every : goal.returns-clause-every
 returns-clause-every g c = λ bs gave v spelt.
     let s = start_of_reader (g.R.Read.remaining c.args.reader) in
     let reports : Reports s bs = record { is = gave.reported; short = omega (arith, gave.short) } in
-    let given = subst (λ (s : Input). IfErr c.read_all.result (ReportsWhole g.T.Readable.passes_over g.T.Readable.total reader_refusals all_formats (g.T.Readable.reads from_reader_context) max_depth s)) c.new.ensures c.read_all.ensures.fault in
+    let given = subst (λ (s : Input). IfErr c.read_all.result (ReportsWhole g.T.Readable.passes_over g.T.Readable.total reader_refusals all_formats (g.T.Readable.reads from_reader_context) max_depth s)) c.inline.ensures c.read_all.ensures.fault in
     let reads = g.T.Readable.reads from_reader_context in
-    let read = subst (λ (s : Input). ReadsAll reader_refusals all_formats reads max_depth s c.read_all.result) c.new.ensures c.read_all.ensures.read in
+    let read = subst (λ (s : Input). ReadsAll reader_refusals all_formats reads max_depth s c.read_all.result) c.inline.ensures c.read_all.ensures.read in
     every_or_fault g.T.Readable.total reader_refusals reads s bs reports refl gave.short v spelt tt c.read_all.result read (fails_or_faults g.T.Readable.passes_over g.T.Readable.total reader_refusals (g.T.Readable.reads from_reader_context) s bs reports refl c.read_all.result given)
 
 pub returns-clause-first : goal.returns-clause-first
 returns-clause-first g c = λ bs gave.
     let s = start_of_reader (g.R.Read.remaining c.args.reader) in
     let reports : Reports s bs = record { is = gave.reported; short = omega (arith, gave.short) } in
-    let given = subst (λ (s : Input). IfErr c.read_all.result (ReportsWhole g.T.Readable.passes_over g.T.Readable.total reader_refusals all_formats (g.T.Readable.reads from_reader_context) max_depth s)) c.new.ensures c.read_all.ensures.fault in
+    let given = subst (λ (s : Input). IfErr c.read_all.result (ReportsWhole g.T.Readable.passes_over g.T.Readable.total reader_refusals all_formats (g.T.Readable.reads from_reader_context) max_depth s)) c.inline.ensures c.read_all.ensures.fault in
     first_from_reader g.T.Readable.total bs gave.are_bytes c.read_all.result (fails_or_faults g.T.Readable.passes_over g.T.Readable.total reader_refusals (g.T.Readable.reads from_reader_context) s bs reports refl c.read_all.result given)
 
 pub returns-clause-memory : goal.returns-clause-memory
@@ -57,10 +57,10 @@ returns-clause-memory g c = λ bs gave x spelt.
     let s = start_of_reader (g.R.Read.remaining c.args.reader) in
     let reads = g.T.Readable.reads from_reader_context in
     let asks = g.T.Readable.asks_memory from_reader_asks in
-    let memory = subst (λ (s : Input). IfErr c.read_all.result (MemoryFor asks all_formats reads max_depth s)) c.new.ensures c.read_all.ensures.memory in
+    let memory = subst (λ (s : Input). IfErr c.read_all.result (MemoryFor asks all_formats reads max_depth s)) c.inline.ensures c.read_all.ensures.memory in
     let reports : Reports s bs = record { is = gave.reported; short = omega (arith, gave.short) } in
     asked_or_fault reader_refusals all_formats reads s bs reports refl gave.are_bytes asks x spelt tt c.read_all.result memory
 
 pub returns-clause-form : goal.returns-clause-form
 returns-clause-form g c =
-    subst (λ (s : Input). IfErr c.read_all.result (MayReport g.T.Readable.wrong_forms all_formats s)) c.new.ensures c.read_all.ensures.form
+    subst (λ (s : Input). IfErr c.read_all.result (MayReport g.T.Readable.wrong_forms all_formats s)) c.inline.ensures c.read_all.ensures.form

@@ -9,8 +9,8 @@ abbrev pub invariant-bytes : goal.invariant-bytes
 invariant-bytes g l = record {
   took : TookKept (g.R.Source.source l.fn.decoder.source) (g.R.Source.source l.decoder.source) l.bytes.items;
   settings : SameSettings l.fn.decoder l.decoder;
-  follows : Follows l.levels l.scan l.bytes.items;
-  none : HasNoItem l.levels l.bytes.items;
+  follows : Follows l.fn.decoder.levels l.scan l.bytes.items;
+  none : HasNoItem l.fn.decoder.levels l.bytes.items;
 }
 
 abbrev pub decreases-bytes : goal.decreases-bytes

@@ -3,7 +3,7 @@ use Rattle.std.proofs.lemmas.Slice.{take-put_mid}
 use borrow.Rule.Slice.PartMut.{put_mid}
 use Rattle.cbor_read.specs.Source.{TookKept}
 use Rattle.cbor_buffered.specs.Block.{in_block}
-use Rattle.cbor_buffered.proofs.Block.{taken_length}
+use Rattle.cbor_buffered.proofs.BlockBytes.{taken_length}
 use Rattle.cbor_buffered.proofs.Steps.{kept_more}
 use Rattle.cbor_buffered.proofs.buffered_read.BufferedReadSource.read_into.Goals as goal
 
@@ -11,12 +11,14 @@ pub pieces-preserved : goal.pieces-preserved
 pieces-preserved g c =
     let u = c.wanted.new.self in
     let n = c.in_ok-count.count in
+    let b = g.B.Block.held u.block in
+    let whole = g.met.B.Block.whole u.block in
     let at = c.pieces.filled in
     let old = c.pieces.buf in
     let new = c.copy_from_slice.new.self in
     let k = at + n - at in
-    let len = taken_length u.block.items u.taken n u.end c.in_ok-count.ensures.count.2
-    (omega arith) in
+    let len = taken_length b u.taken n u.end c.in_ok-count.ensures.count.2
+    (omega (arith, whole)) in
     let copied : new ≡ take n (in_block u) =
     c.copy_from_slice.ensures.after ∙ ap (take n) c.ahead.ensures.bytes in
     let long : length new ≡ n = ap length copied ∙ len in

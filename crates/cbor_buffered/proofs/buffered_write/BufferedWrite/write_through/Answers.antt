@@ -1,5 +1,5 @@
 use Rattle.std.proofs.Common.{arith}
-use Rattle.cbor_buffered.proofs.Block.{none_left}
+use Rattle.cbor_buffered.proofs.BlockBytes.{none_left}
 use Rattle.cbor_buffered.proofs.Sent.{passed_on, wrote_front}
 use Rattle.cbor_buffered.proofs.buffered_write.BufferedWrite.write_through.Goals as goal
 

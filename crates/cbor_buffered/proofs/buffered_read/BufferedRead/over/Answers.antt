@@ -1,6 +1,6 @@
 use Rattle.std.proofs.Common.{add-zero}
 use Rattle.std.proofs.KnownBytes.{prepend_known-nil}
-use Rattle.cbor_buffered.proofs.buffered_read.BufferedRead.at_offset.Goals as goal
+use Rattle.cbor_buffered.proofs.buffered_read.BufferedRead.over.Goals as goal
 
 pub returns-clause-ok : goal.returns-clause-ok
 returns-clause-ok g c =

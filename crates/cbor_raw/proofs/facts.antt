@@ -1,0 +1,2 @@
+-- What the crates above may cite of this crate's proofs, and nothing else.
+pub mod Gathered
