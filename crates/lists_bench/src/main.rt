@@ -154,7 +154,7 @@ fn through_writer<'a, T: Deserialize<'a, SliceRead<'a>> + Serialize>(
     let list: Vec<T> = from_slice(alloc, item)?;
     let mut bytes = Vec::new(alloc);
     let mut writer = BufWriter::new(alloc, &mut bytes)?;
-    to_io_writer(alloc, &mut writer, &list)?;
+    to_writer(alloc, &mut IoWrite::new(&mut writer), &list)?;
     writer.flush()?;
     drop(writer);
     Ok(bytes.len())

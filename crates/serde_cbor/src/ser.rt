@@ -1,6 +1,6 @@
 //! Writing: [`to_vec`] encodes a value, or a type that says its document ([`Serialize`]), and
-//! [`to_writer`] writes it to a sink, as a [`Serializer`] does one after the other, and
-//! [`to_io_writer`] to a writer of the standard library; [`encoded_len`] tells how long it will be.
+//! [`to_writer`] writes it to a sink, as a [`Serializer`] does one after the other;
+//! [`encoded_len`] tells how long it will be.
 
 pub use cbor_buffered::BufferedWrite;
 pub use cbor_length::{ByteCount, encoded_len};
@@ -10,4 +10,3 @@ pub use cbor_ser::{
     SerializeVariant, Serializer, SliceWrite, StructSerializer, TupleDocuments, VariantDocument,
     Write, WriteDone, WriteRefused, WrittenBy, to_vec, to_vec_packed, to_writer,
 };
-pub use cbor_writer::to_io_writer;
