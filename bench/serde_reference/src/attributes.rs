@@ -1,9 +1,10 @@
 //! The types of `crates/derived_attributes`: prints the rows of its table.
 
-use crate::{hex, User};
+use crate::{row, User};
 use serde::{Deserialize, Deserializer, Serialize, Serializer};
+use std::borrow::Cow;
+use std::cmp::Ordering;
 use std::convert::TryFrom;
-use std::fmt::Debug;
 
 #[derive(Debug, Serialize, Deserialize)]
 #[serde(rename_all = "SCREAMING_SNAKE_CASE")]
@@ -143,19 +144,73 @@ struct Sides {
     h: u8,
 }
 
-// The row of these bytes.
-fn row<T: for<'a> Deserialize<'a> + Serialize + Debug>(name: &str, bytes: &[u8]) {
-    match serde_cbor::from_slice::<T>(bytes) {
-        Ok(value) => {
-            let written = serde_cbor::to_vec(&value).unwrap();
-            println!("{name} | {} | {value:?} | {}", hex(bytes), hex(&written));
-        }
-        Err(e) if e.is_data() => println!("{name} | {} | data", hex(bytes)),
-        Err(e) => println!("{name} | {} | {e}", hex(bytes)),
+#[derive(Clone, Copy, Debug, Serialize, Deserialize)]
+#[serde(from = "Option<u8>", into = "u8")]
+struct Volume(u8);
+
+impl From<Option<u8>> for Volume {
+    fn from(n: Option<u8>) -> Volume {
+        Volume(n.unwrap_or(50))
     }
 }
 
+impl From<Volume> for u8 {
+    fn from(volume: Volume) -> u8 {
+        volume.0
+    }
+}
+
+#[derive(Debug, Serialize, Deserialize)]
+#[serde(rename_all = "lowercase")]
+enum Step {
+    #[serde(rename_all = "kebab-case")]
+    Copied {
+        from_slot: u8,
+        to_slot: u8,
+    },
+    Moved(#[serde(serialize_with = "send_negated", deserialize_with = "read_negated")] i32),
+    #[serde(skip_serializing)]
+    Old(u8),
+    #[serde(skip_deserializing)]
+    Waiting,
+}
+
+impl Default for Step {
+    fn default() -> Step {
+        Step::Waiting
+    }
+}
+
+#[derive(Debug, Serialize, Deserialize)]
+#[serde(expecting = "a task")]
+struct Task<'a> {
+    #[serde(borrow)]
+    title: Cow<'a, str>,
+    #[serde(default)]
+    step: Step,
+}
+
+#[derive(Debug, Serialize, Deserialize)]
+#[serde(bound = "")]
+struct Cache<T> {
+    hits: u16,
+    #[serde(default, skip_serializing_if = "is_zero")]
+    misses: u16,
+    #[serde(skip)]
+    kept: Vec<T>,
+}
+
+fn is_zero(n: &u16) -> bool {
+    *n == 0
+}
+
 pub fn print() {
+    types();
+    values();
+    other_types();
+}
+
+fn types() {
     row::<Loud>("loud", b"\xa2\x68MAX_SIZE\x05\x6aFIRST_KIND\x69first-one");
     row::<Loud>(
         "loud",
@@ -275,4 +330,101 @@ pub fn print() {
     row::<Kind>("kind", b"\x69first-one");
     row::<Kind>("kind", b"\xa1\x6asecond-one\x19\x01\x00");
     row::<Kind>("kind", b"\xa1\x65third\x81\x09");
+}
+
+fn values() {
+    row::<Loud>(
+        "loud",
+        b"\xbf\x68MAX_SIZE\x18\x18\x6aFIRST_KIND\x69first-one\xff",
+    );
+    row::<Loud>("loud", b"\x82\x00\xa1\x6asecond-one\x18\xff");
+    row::<Kind>("kind", b"\xa1\x6asecond-one\x18\x18");
+    row::<Kind>("kind", b"\xa1\x633rd\xbf\x6ainner_size\x18\xff\xff");
+    row::<Wide>("wide", b"\xa1\x64LINE\xa1\x65FromX\x18\x7f");
+    row::<Wide>("wide", b"\xa1\x64AREA\x82\x18\xff\x00");
+    row::<Preset>("preset", b"\xa2\x69LOG-LEVEL\x18\xff\x65IS-ON\xf5");
+    row::<Preset>("preset", b"\x82\x09\xf4");
+    row::<Preset>("preset", b"\xa2\x69log-level\x07\x65IS-ON\xf4");
+    row::<Sided>(
+        "sided",
+        b"\xa3\x62in\x18\xff\x65depth\x3a\x7f\xff\xff\xff\x64port\x00",
+    );
+    row::<Sided>(
+        "sided",
+        b"\xbf\x64port\x19\xff\xff\x65depth\x1a\x7f\xff\xff\xff\x62in\x00\xff",
+    );
+    row::<Sided>(
+        "sided",
+        b"\xa5\x62in\x01\x66secret\x02\x64made\x03\x64port\x04\x65depth\x20",
+    );
+    row::<Id>("id", b"\x00");
+    row::<Id>("id", b"\x1a\xff\xff\xff\xff");
+    row::<Percent>("percent", b"\x18\x18");
+    row::<Percent>("percent", b"\x19\x00\x64");
+    row::<Command>("command", b"\xa2\x64kind\x62go\x62to\x00");
+    row::<Command>("command", b"\xbf\x64kind\x64stop\xff");
+    row::<Page<u8>>(
+        "page of numbers",
+        b"\xbf\x64next\x1a\xff\xff\xff\xff\x65items\x9f\x18\x18\x00\xff\xff",
+    );
+    row::<Page<u8>>("page of numbers", b"\x82\x81\x05\xf6");
+    row::<Page<Kind>>(
+        "page of kinds",
+        b"\xa2\x64next\x00\x65items\x82\xa1\x65third\xa1\x6ainner_size\x07\x69first-one",
+    );
+    row::<Page<Page<bool>>>(
+        "page of pages",
+        b"\xa1\x65items\x82\xa2\x64next\x18\x18\x65items\x80\xa1\x65items\x82\xf4\xf5",
+    );
+    row::<Joined>(
+        "joined",
+        b"\xa4\x61w\x00\x62id\x00\x67user_id\x00\x65admin\xf4",
+    );
+    row::<Joined>(
+        "joined",
+        b"\xa5\x62id\x1a\xff\xff\xff\xff\x61h\x18\xff\x61w\x18\xff\x65admin\xf5\x67user_id\x1a\
+          \xff\xff\xff\xff",
+    );
+}
+
+fn other_types() {
+    row::<Volume>("volume", b"\x18\x64");
+    row::<Volume>("volume", b"\xf6");
+    row::<Volume>("volume", b"\x00");
+    row::<Volume>("volume", b"\x19\x01\x00");
+    row::<Step>(
+        "step",
+        b"\xa1\x66copied\xa2\x69from-slot\x01\x67to-slot\x18\xff",
+    );
+    row::<Step>(
+        "step",
+        b"\xa1\x66copied\xbf\x67to-slot\x00\x69from-slot\x18\x18\xff",
+    );
+    row::<Step>("step", b"\xa1\x66copied\x82\x03\x04");
+    row::<Step>(
+        "step",
+        b"\xa1\x66copied\xa2\x69from_slot\x01\x67to_slot\x02",
+    );
+    row::<Step>("step", b"\xa1\x65moved\x05");
+    row::<Step>("step", b"\xa1\x65moved\x3a\x7f\xff\xff\xff");
+    row::<Step>("step", b"\xa1\x65moved\x1b\x00\x00\x00\x01\x00\x00\x00\x00");
+    row::<Step>("step", b"\xa1\x63old\x05");
+    row::<Step>("step", b"\x67waiting");
+    row::<Task>("task", b"\xa2\x65title\x61a\x64step\xa1\x65moved\x20");
+    row::<Task>("task", b"\xa1\x65title\x60");
+    row::<Task>("task", b"\xbf\x65title\x7f\x61a\x62\xc3\xa9\xff\xff");
+    row::<Task>(
+        "task",
+        b"\xa2\x64step\xa1\x66copied\xa2\x69from-slot\x00\x67to-slot\x17\x65title\x61b",
+    );
+    row::<Task>("task", b"\xa2\x65title\x61a\x64step\x67waiting");
+    row::<Task>("task", b"\x05");
+    row::<Cache<Ordering>>("cache", b"\xa2\x64hits\x19\x01\x00\x66misses\x18\x18");
+    row::<Cache<Ordering>>("cache", b"\xa1\x64hits\x00");
+    row::<Cache<Ordering>>(
+        "cache",
+        b"\xa3\x64hits\x19\xff\xff\x66misses\x00\x64kept\x81\x01",
+    );
+    row::<Cache<Ordering>>("cache", b"\x82\x05\x06");
+    row::<Cache<Ordering>>("cache", b"\xa1\x66misses\x01");
 }

@@ -1,6 +1,6 @@
-//! Prints what the Rust crate writes of values of derived types, and what these types read of bytes:
-//! `w NAME BYTES`, and `r NAME BYTES ANSWER`. With the word `attributes` or `more` it prints the rows
-//! of that table.
+//! Prints the rows of `crates/derived_rows/data/rust.rows`: what the Rust crate reads of some bytes as a
+//! derived type, and what it writes of the value. With the word `attributes` or `more` it prints the
+//! rows of that table.
 
 mod attributes;
 mod more;
@@ -129,31 +129,71 @@ struct Hinted {
 fn hex(b: &[u8]) -> String {
     b.iter().map(|x| format!("{x:02x}")).collect()
 }
-fn w<T: Serialize>(name: &str, v: &T) {
-    match serde_cbor::to_vec(v) {
-        Ok(b) => println!("w {name} {}", hex(&b)),
-        Err(e) => println!("w {name} error: {e}"),
+
+// The row of these bytes, which may be lent. Of a value that isn't written, the last column is left out.
+fn row<'a, T: Deserialize<'a> + Serialize + Debug>(name: &str, bytes: &'a [u8]) {
+    match serde_cbor::from_slice::<T>(bytes) {
+        Ok(value) => match serde_cbor::to_vec(&value) {
+            Ok(written) => println!("{name} | {} | {value:?} | {}", hex(bytes), hex(&written)),
+            Err(_) => println!("{name} | {} | {value:?}", hex(bytes)),
+        },
+        Err(e) if e.is_data() => println!("{name} | {} | data", hex(bytes)),
+        Err(e) => println!("{name} | {} | {e}", hex(bytes)),
     }
 }
-fn r<'a, T: Deserialize<'a> + Debug>(name: &str, b: &'a [u8]) {
-    match serde_cbor::from_slice::<T>(b) {
-        Ok(v) => println!("r {name} {} {v:?}", hex(b)),
-        Err(e) => println!("r {name} {} error: {e}", hex(b)),
-    }
+
+// The row of the bytes that the value is written as.
+fn row_of<T: Deserialize<'static> + Serialize + Debug>(name: &str, value: &T) {
+    row::<T>(name, serde_cbor::to_vec(value).unwrap().leak());
 }
 
 fn main() {
     match std::env::args().nth(1).as_deref() {
-        Some("attributes") => return attributes::print(),
-        Some("more") => return more::print(),
-        _ => {}
+        Some("attributes") => attributes::print(),
+        Some("more") => more::print(),
+        _ => {
+            structs();
+            fields();
+            enums();
+            plain();
+            floats();
+        }
     }
-    let user = || User {
+}
+
+fn user() -> User {
+    User {
         user_id: 7,
         admin: true,
-    };
-    w("user", &user());
-    w(
+    }
+}
+
+fn leaf(v: u8) -> Tree {
+    Tree { v, kids: vec![] }
+}
+
+fn structs() {
+    row_of("user", &user());
+    row::<User>("user", b"\xbf\x65admin\xf5\x67user_id\x07\xff");
+    row::<User>(
+        "user",
+        b"\xa3\x65extra\x82\x01\x02\x65admin\xf5\x67user_id\x07",
+    );
+    row::<User>("user", b"\xa1\x65admin\xf5");
+    row::<User>("user", b"\xa3\x65admin\xf5\x65admin\xf5\x67user_id\x07");
+    row::<User>("user", b"\x82\x07\xf5");
+    row::<User>("user", b"\xa2\x00\x07\x01\xf5");
+    row::<User>("user", b"\xa2\x47user_id\x07\x65admin\xf5");
+    row::<User>("user", b"\xa2\x67user_id\x19\x01");
+    row::<User>("user", b"\xa2\x67user_id\x07\x65admin\xf5\x00");
+    row::<User>("user", b"\xa2\x67user_id\x07\x65admin\x01");
+    row::<User>(
+        "user",
+        b"\xa2\x67user_id\x1b\x00\x00\x00\x01\x00\x00\x00\x00\x65admin\xf5",
+    );
+    row::<User>("user", b"\xa2\x7f\x64user\x63_id\xff\x07\x65admin\xf5");
+
+    row_of(
         "moon",
         &Moon {
             name: "Io",
@@ -161,8 +201,11 @@ fn main() {
             craters: vec![1, 70000],
         },
     );
-    w(
-        "tuned_some",
+    row::<Moon>("moon", b"\xa2\x64name\x62Io\x69orbitDays\x01");
+    row::<Moon>("moon", b"\xa2\x64name\x7f\x61I\x61o\xff\x69orbitDays\x01");
+
+    row_of(
+        "tuned",
         &Tuned {
             level: 3,
             hidden: 9,
@@ -170,8 +213,8 @@ fn main() {
             number: -300,
         },
     );
-    w(
-        "tuned_none",
+    row_of(
+        "tuned",
         &Tuned {
             level: 3,
             hidden: 9,
@@ -179,7 +222,8 @@ fn main() {
             number: i64::MIN,
         },
     );
-    w(
+
+    row_of(
         "outer",
         &Outer {
             id: 1,
@@ -187,47 +231,36 @@ fn main() {
             last: 1.5,
         },
     );
-    w("shape_unit", &Shape::NoShape);
-    w("shape_newtype", &Shape::Circle(1.1));
-    w("shape_tuple", &Shape::Line(1, -2));
-    w("shape_struct", &Shape::Rect { w: 3, h: 400 });
-    w("event_struct", &Event::Start { at: 5 });
-    w("event_newtype", &Event::Named(user()));
-    w("event_unit", &Event::Stop);
-    w("adjacent_newtype", &Adjacent::One(1));
-    w("adjacent_tuple", &Adjacent::Two(1, true));
-    w("adjacent_struct", &Adjacent::Set { x: -1 });
-    w("adjacent_unit", &Adjacent::Unit);
-    w("any_number", &Any::Number(9));
-    w("any_pair", &Any::Pair(1, false));
-    w("any_named", &Any::Named(user()));
-    w(
-        "blob",
-        &Blob {
-            data: vec![1, 2],
-            plain: vec![1, 200],
-        },
+    row::<Outer>(
+        "outer",
+        b"\xa4\x64last\x01\x62id\x01\x67user_id\x07\x65admin\xf5",
     );
-    w(
+
+    row::<Strict>("strict", b"\xa2\x61a\x01\x61c\x02");
+    row::<Strict>("strict", b"\xa1\x61a\x01");
+    row::<Strict>("strict", b"\xa2\x61a\x01\x61b\xf7");
+
+    row_of(
         "tree",
         &Tree {
             v: 1,
             kids: vec![
-                Tree { v: 2, kids: vec![] },
+                leaf(2),
                 Tree {
                     v: 3,
-                    kids: vec![Tree { v: 4, kids: vec![] }],
+                    kids: vec![leaf(4)],
                 },
             ],
         },
     );
-    w("nothing", &Nothing);
-    w("pair", &Pair(1, true));
-    w("wrap", &Wrap(u64::MAX));
-    let mut map = BTreeMap::new();
-    map.insert(-1, true);
-    map.insert(5, false);
-    w(
+    row::<Tree>(
+        "tree",
+        b"\xa2\x61v\x01\x64kids\x81\xa2\x61v\x02\x64kids\x80",
+    );
+}
+
+fn fields() {
+    row_of(
         "mixed",
         &Mixed {
             c: 'é',
@@ -237,20 +270,109 @@ fn main() {
             some: Some(24),
             unit: (),
             tup: (1, "ab"),
-            map,
+            map: BTreeMap::from([(-1, true), (5, false)]),
             arr: [1, 2, 3],
         },
     );
-    w(
+
+    row_of("pair", &Pair(1, true));
+    row::<Pair>("pair", b"\x83\x01\xf5\x00");
+    row::<Pair>("pair", b"\x81\x01");
+    row::<Pair>("pair", b"\x9f\x01\xf5\xff");
+
+    row_of("wrap", &Wrap(u64::MAX));
+    row::<Wrap>("wrap", b"\xc1\x01");
+
+    row_of("nothing", &Nothing);
+    row::<Nothing>("nothing", b"\xf7");
+
+    row_of(
+        "blob",
+        &Blob {
+            data: vec![1, 2],
+            plain: vec![1, 200],
+        },
+    );
+    row::<Blob>("blob", b"\xa2\x64data\x42\x01\x02\x65plain\x82\x01\x02");
+    row::<Blob>("blob", b"\xa2\x64data\x5f\x41\x01\x41\x02\xff\x65plain\x80");
+}
+
+fn enums() {
+    row_of("shape", &Shape::NoShape);
+    row_of("shape", &Shape::Circle(1.1));
+    row_of("shape", &Shape::Line(1, -2));
+    row_of("shape", &Shape::Rect { w: 3, h: 400 });
+    row::<Shape>("shape", b"\xa1\x68no_shape\xf6");
+    row::<Shape>("shape", b"\xa1\x66circle\xf9\x3e\x00");
+    row::<Shape>("shape", b"\xa1\x66circle\x05");
+    row::<Shape>(
+        "shape",
+        b"\xa1\x66circle\xfb\x3f\xf1\x99\x99\x99\x99\x99\x9a",
+    );
+    row::<Shape>("shape", b"\xa1\x64line\x83\x01\x21\x00");
+    row::<Shape>("shape", b"\xa1\x64rect\xa2\x61h\x01\x61w\x02");
+    row::<Shape>("shape", b"\x65wrong");
+    row::<Shape>("shape", b"\x00");
+    row::<Shape>("shape", b"\x82\x66circle\x05");
+
+    row_of("event", &Event::Start { at: 5 });
+    row_of("event", &Event::Named(user()));
+    row_of("event", &Event::Stop);
+    row::<Event>("event", b"\xa2\x62at\x05\x64type\x65Start");
+    row::<Event>("event", b"\xa0");
+
+    row_of("adjacent", &Adjacent::One(1));
+    row_of("adjacent", &Adjacent::Two(1, true));
+    row_of("adjacent", &Adjacent::Set { x: -1 });
+    row_of("adjacent", &Adjacent::Unit);
+    row::<Adjacent>("adjacent", b"\xa2\x61c\x82\x01\xf5\x61t\x63Two");
+
+    row_of("any", &Any::Number(9));
+    row_of("any", &Any::Pair(1, false));
+    row_of("any", &Any::Named(user()));
+    row::<Any>("any", b"\x82\x61a\x61b");
+    row::<Any>("any", b"\x82\x61a");
+    row::<Any>("any", b"\xf5");
+
+    row_of(
         "hinted",
         &Hinted {
             kind: Event::Start { at: 5 },
             extra: 1,
         },
     );
-    w("big", &(1i128 << 64));
-    w("ubig", &(1u128 << 64));
-    for (i, x) in [
+    row::<Hinted>("hinted", b"\xa3\x62at\x05\x64type\x65Start\x65extra\x01");
+}
+
+fn plain() {
+    row::<(u8, bool)>("(u8, bool)", b"\x82\x01\xf5");
+    row::<Option<u8>>("Option<u8>", b"\xf6");
+    row::<Option<u8>>("Option<u8>", b"\xf7");
+    row::<Vec<u8>>("Vec<u8>", b"\x9f\x01\x02\xff");
+    row::<Vec<u8>>("Vec<u8>", b"\x9f\x01\x02");
+    row::<Vec<u8>>("Vec<u8>", b"\x42\x01\x02");
+    row::<String>("String", b"\x62\xc3\x28");
+    row::<char>("char", b"\x61a");
+    row::<char>("char", b"\x62ab");
+    row::<u64>("u64", b"\xff");
+    row::<u64>("u64", b"");
+}
+
+fn floats() {
+    for x in [
+        0.0f32,
+        -0.0,
+        1.0,
+        0.1,
+        65504.0,
+        5.9604645e-8,
+        f32::INFINITY,
+        f32::NAN,
+    ] {
+        row_of("f32", &x);
+    }
+    row::<f32>("f32", b"\xfb\x3f\xf1\x99\x99\x99\x99\x99\x9a");
+    for x in [
         0.0f64,
         -0.0,
         1.0,
@@ -270,114 +392,8 @@ fn main() {
         100000.0,
         65520.0,
         8.940696716308594e-8,
-    ]
-    .into_iter()
-    .enumerate()
-    {
-        w(&format!("f64_{i}"), &x);
+    ] {
+        row_of("f64", &x);
     }
-    for (i, x) in [
-        0.0f32,
-        -0.0,
-        1.0,
-        0.1,
-        65504.0,
-        5.9604645e-8,
-        f32::INFINITY,
-        f32::NAN,
-    ]
-    .into_iter()
-    .enumerate()
-    {
-        w(&format!("f32_{i}"), &x);
-    }
-    // reading
-    r::<User>("user", b"\xa2\x67user_id\x07\x65admin\xf5");
-    r::<User>("user", b"\xbf\x65admin\xf5\x67user_id\x07\xff");
-    r::<User>(
-        "user",
-        b"\xa3\x65extra\x82\x01\x02\x65admin\xf5\x67user_id\x07",
-    );
-    r::<User>("user", b"\xa1\x65admin\xf5");
-    r::<User>("user", b"\xa3\x65admin\xf5\x65admin\xf5\x67user_id\x07");
-    r::<User>("user", b"\x82\x07\xf5");
-    r::<User>("user", b"\xa2\x00\x07\x01\xf5");
-    r::<User>("user", b"\xa2\x47user_id\x07\x65admin\xf5");
-    r::<User>("user", b"\xa2\x67user_id\x19\x01");
-    r::<User>("user", b"\xa2\x67user_id\x07\x65admin\xf5\x00");
-    r::<User>("user", b"\xa2\x67user_id\x07\x65admin\x01");
-    r::<User>(
-        "user",
-        b"\xa2\x67user_id\x1b\x00\x00\x00\x01\x00\x00\x00\x00\x65admin\xf5",
-    );
-    r::<User>("user", b"\xa2\x7f\x64user\x63_id\xff\x07\x65admin\xf5");
-    r::<Moon>("moon", b"\xa2\x64name\x62Io\x69orbitDays\x01");
-    r::<Moon>("moon", b"\xa2\x64name\x7f\x61I\x61o\xff\x69orbitDays\x01");
-    r::<Shape>("shape", b"\x68no_shape");
-    r::<Shape>("shape", b"\xa1\x68no_shape\xf6");
-    r::<Shape>("shape", b"\xa1\x66circle\xf9\x3e\x00");
-    r::<Shape>("shape", b"\xa1\x66circle\x05");
-    r::<Shape>(
-        "shape",
-        b"\xa1\x66circle\xfb\x3f\xf1\x99\x99\x99\x99\x99\x9a",
-    );
-    r::<Shape>("shape", b"\xa1\x64line\x82\x01\x21");
-    r::<Shape>("shape", b"\xa1\x64line\x83\x01\x21\x00");
-    r::<Shape>("shape", b"\xa1\x64rect\xa2\x61h\x01\x61w\x02");
-    r::<Shape>("shape", b"\x65wrong");
-    r::<Shape>("shape", b"\x00");
-    r::<Shape>("shape", b"\x82\x66circle\x05");
-    r::<Event>("event", b"\xa2\x62at\x05\x64type\x65Start");
-    r::<Event>(
-        "event",
-        b"\xa3\x64type\x65Named\x67user_id\x07\x65admin\xf5",
-    );
-    r::<Event>("event", b"\xa1\x64type\x64Stop");
-    r::<Event>("event", b"\xa0");
-    r::<Adjacent>("adjacent", b"\xa2\x61c\x82\x01\xf5\x61t\x63Two");
-    r::<Adjacent>("adjacent", b"\xa1\x61t\x64Unit");
-    r::<Any>("any", b"\x09");
-    r::<Any>("any", b"\x82\x01\xf4");
-    r::<Any>("any", b"\xa2\x67user_id\x07\x65admin\xf5");
-    r::<Any>("any", b"\x82\x61a\x61b");
-    r::<Any>("any", b"\x82\x61a");
-    r::<Any>("any", b"\xf5");
-    r::<Outer>(
-        "outer",
-        b"\xbf\x62id\x01\x67user_id\x07\x65admin\xf5\x64last\xf9\x3e\x00\xff",
-    );
-    r::<Outer>(
-        "outer",
-        b"\xa4\x64last\x01\x62id\x01\x67user_id\x07\x65admin\xf5",
-    );
-    r::<Blob>("blob", b"\xa2\x64data\x42\x01\x02\x65plain\x82\x01\x02");
-    r::<Blob>("blob", b"\xa2\x64data\x5f\x41\x01\x41\x02\xff\x65plain\x80");
-    r::<Tree>(
-        "tree",
-        b"\xa2\x61v\x01\x64kids\x81\xa2\x61v\x02\x64kids\x80",
-    );
-    r::<Nothing>("nothing", b"\xf6");
-    r::<Nothing>("nothing", b"\xf7");
-    r::<Pair>("pair", b"\x82\x01\xf5");
-    r::<Pair>("pair", b"\x83\x01\xf5\x00");
-    r::<Pair>("pair", b"\x81\x01");
-    r::<Pair>("pair", b"\x9f\x01\xf5\xff");
-    r::<Wrap>("wrap", b"\xc1\x01");
-    r::<Strict>("strict", b"\xa2\x61a\x01\x61c\x02");
-    r::<Strict>("strict", b"\xa1\x61a\x01");
-    r::<Strict>("strict", b"\xa2\x61a\x01\x61b\xf7");
-    r::<Hinted>("hinted", b"\xa3\x62at\x05\x64type\x65Start\x65extra\x01");
-    r::<(u8, bool)>("tuple", b"\x82\x01\xf5");
-    r::<Option<u8>>("option", b"\xf6");
-    r::<Option<u8>>("option", b"\xf7");
-    r::<Vec<u8>>("vec", b"\x9f\x01\x02\xff");
-    r::<Vec<u8>>("vec", b"\x9f\x01\x02");
-    r::<Vec<u8>>("vec", b"\x42\x01\x02");
-    r::<String>("string", b"\x62\xc3\x28");
-    r::<f32>("f32", b"\xfb\x3f\xf1\x99\x99\x99\x99\x99\x9a");
-    r::<f64>("f64", b"\x1b\xff\xff\xff\xff\xff\xff\xff\xff");
-    r::<char>("char", b"\x61a");
-    r::<char>("char", b"\x62ab");
-    r::<u64>("u64", b"\xff");
-    r::<u64>("u64", b"");
+    row::<f64>("f64", b"\x1b\xff\xff\xff\xff\xff\xff\xff\xff");
 }

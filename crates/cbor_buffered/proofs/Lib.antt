@@ -1,4 +1,3 @@
 pub mod BlockBytes
 pub mod Refusals
-pub mod Sent
 pub mod Steps

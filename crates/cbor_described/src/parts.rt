@@ -8,11 +8,11 @@ ghost use Rattle.cbor_de.specs.Calls as call;
 
 use cbor_de::{Deserialize, Deserializer, Read, Readable};
 use cbor_io::error::Result;
-use cbor_parts::{Newtype, Parts, Schema};
+use cbor_parts::{AtMostTwelveParts, Newtype, Schema};
 
 /// The parts of a struct, a tuple of its fields or a [`Newtype`] of its one part, or of an enum,
 /// one of its variants.
-pub trait ReadableParts: Parts {
+pub trait ReadableParts: AtMostTwelveParts {
     ghost use Rattle.std.specs.Prelude.{List, ℕ};
     ghost use Rattle.cbor_model.specs.Raw.{Raw};
     ghost use Rattle.cbor_model.specs.Readable.{Context};

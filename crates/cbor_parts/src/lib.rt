@@ -12,7 +12,7 @@ ghost use Rattle.std.specs.Prelude.{◌≡◌, length, map};
 pub struct Newtype<T>(pub T);
 
 /// It has no names.
-impl<T: Drop> Parts for Newtype<T> {
+impl<T: Drop> AtMostTwelveParts for Newtype<T> {
     ghost count = { 0 };
 }
 
@@ -41,7 +41,7 @@ pub trait FieldNames {
     ghost use Rattle.std.specs.Prelude.{List, ℕ};
 
     /// The fields, in the order of their numbers.
-    type Parts: Parts;
+    type Parts: AtMostTwelveParts;
 
     ghost names: { List (List ℕ) };
 
@@ -62,57 +62,78 @@ pub struct Optional<T>(pub Option<T>);
 #[derive(Debug, PartialEq, Drop)]
 pub struct OrDefault<T>(pub T);
 
-/// The parts of a struct or of a variant, a tuple, or those of an enum, one of its variants.
+/// The parts of a struct or of a variant, a tuple of one to twelve, or those of an enum, one of its
+/// one to eight variants.
 ///
 /// Those of a struct whose one part has no name are a `Newtype` of that part.
-pub trait Parts: Sized + Drop {
+pub trait AtMostTwelveParts: Sized + Drop {
     ghost use Rattle.std.specs.Prelude.{ℕ};
 
     // How many they are.
     ghost count: { ℕ };
 }
 
-impl<A: Drop> Parts for (A,) {
+impl<A: Drop> AtMostTwelveParts for (A,) {
     ghost count = { 1 };
 }
 
-impl<A: Drop, B: Drop> Parts for (A, B) {
+impl<A: Drop, B: Drop> AtMostTwelveParts for (A, B) {
     ghost count = { 2 };
 }
 
-impl<A: Drop, B: Drop, C: Drop> Parts for (A, B, C) {
+impl<A: Drop, B: Drop, C: Drop> AtMostTwelveParts for (A, B, C) {
     ghost count = { 3 };
 }
 
-impl<A: Drop, B: Drop, C: Drop, D: Drop> Parts for (A, B, C, D) {
+impl<A: Drop, B: Drop, C: Drop, D: Drop> AtMostTwelveParts for (A, B, C, D) {
     ghost count = { 4 };
 }
 
-impl<A: Drop, B: Drop, C: Drop, D: Drop, E: Drop> Parts for (A, B, C, D, E) {
+impl<A: Drop, B: Drop, C: Drop, D: Drop, E: Drop> AtMostTwelveParts for (A, B, C, D, E) {
     ghost count = { 5 };
 }
 
-impl<A: Drop, B: Drop, C: Drop, D: Drop, E: Drop, F: Drop> Parts for (A, B, C, D, E, F) {
+impl<A: Drop, B: Drop, C: Drop, D: Drop, E: Drop, F: Drop> AtMostTwelveParts
+    for (A, B, C, D, E, F) {
     ghost count = { 6 };
 }
 
-impl<A: Drop, B: Drop, C: Drop, D: Drop, E: Drop, F: Drop, G: Drop> Parts
+impl<A: Drop, B: Drop, C: Drop, D: Drop, E: Drop, F: Drop, G: Drop> AtMostTwelveParts
     for (A, B, C, D, E, F, G) {
     ghost count = { 7 };
 }
 
-impl<A: Drop, B: Drop, C: Drop, D: Drop, E: Drop, F: Drop, G: Drop, H: Drop> Parts
+impl<A: Drop, B: Drop, C: Drop, D: Drop, E: Drop, F: Drop, G: Drop, H: Drop> AtMostTwelveParts
     for (A, B, C, D, E, F, G, H) {
     ghost count = { 8 };
 }
 
-impl<A: Drop, B: Drop, C: Drop, D: Drop, E: Drop, F: Drop, G: Drop, H: Drop, I: Drop> Parts
-    for (A, B, C, D, E, F, G, H, I) {
+impl<
+    A: Drop,
+    B: Drop,
+    C: Drop,
+    D: Drop,
+    E: Drop,
+    F: Drop,
+    G: Drop,
+    H: Drop,
+    I: Drop,
+> AtMostTwelveParts for (A, B, C, D, E, F, G, H, I) {
     ghost count = { 9 };
 }
 
-impl<A: Drop, B: Drop, C: Drop, D: Drop, E: Drop, F: Drop, G: Drop, H: Drop, I: Drop, J: Drop> Parts
-    for (A, B, C, D, E, F, G, H, I, J) {
+impl<
+    A: Drop,
+    B: Drop,
+    C: Drop,
+    D: Drop,
+    E: Drop,
+    F: Drop,
+    G: Drop,
+    H: Drop,
+    I: Drop,
+    J: Drop,
+> AtMostTwelveParts for (A, B, C, D, E, F, G, H, I, J) {
     ghost count = { 10 };
 }
 
@@ -128,7 +149,7 @@ impl<
     I: Drop,
     J: Drop,
     K: Drop,
-> Parts for (A, B, C, D, E, F, G, H, I, J, K) {
+> AtMostTwelveParts for (A, B, C, D, E, F, G, H, I, J, K) {
     ghost count = { 11 };
 }
 
@@ -145,7 +166,7 @@ impl<
     J: Drop,
     K: Drop,
     L: Drop,
-> Parts for (A, B, C, D, E, F, G, H, I, J, K, L) {
+> AtMostTwelveParts for (A, B, C, D, E, F, G, H, I, J, K, L) {
     ghost count = { 12 };
 }
 
@@ -181,7 +202,7 @@ pub trait Schema: Sized + Drop {
 
     /// The fields in the order of their numbers, or the variants in that of theirs; or a
     /// `Newtype` of the one part of a struct, where that has no name.
-    type Parts: Parts;
+    type Parts: AtMostTwelveParts;
 
     // The names of the fields or the variants.
     ghost names: { List (List ℕ) };
@@ -274,36 +295,37 @@ pub enum OneOf8<A, B, C, D, E, F, G, H> {
     Eighth(H),
 }
 
-impl<A: Drop> Parts for OneOf1<A> {
+impl<A: Drop> AtMostTwelveParts for OneOf1<A> {
     ghost count = { 1 };
 }
 
-impl<A: Drop, B: Drop> Parts for OneOf2<A, B> {
+impl<A: Drop, B: Drop> AtMostTwelveParts for OneOf2<A, B> {
     ghost count = { 2 };
 }
 
-impl<A: Drop, B: Drop, C: Drop> Parts for OneOf3<A, B, C> {
+impl<A: Drop, B: Drop, C: Drop> AtMostTwelveParts for OneOf3<A, B, C> {
     ghost count = { 3 };
 }
 
-impl<A: Drop, B: Drop, C: Drop, D: Drop> Parts for OneOf4<A, B, C, D> {
+impl<A: Drop, B: Drop, C: Drop, D: Drop> AtMostTwelveParts for OneOf4<A, B, C, D> {
     ghost count = { 4 };
 }
 
-impl<A: Drop, B: Drop, C: Drop, D: Drop, E: Drop> Parts for OneOf5<A, B, C, D, E> {
+impl<A: Drop, B: Drop, C: Drop, D: Drop, E: Drop> AtMostTwelveParts for OneOf5<A, B, C, D, E> {
     ghost count = { 5 };
 }
 
-impl<A: Drop, B: Drop, C: Drop, D: Drop, E: Drop, F: Drop> Parts for OneOf6<A, B, C, D, E, F> {
+impl<A: Drop, B: Drop, C: Drop, D: Drop, E: Drop, F: Drop> AtMostTwelveParts
+    for OneOf6<A, B, C, D, E, F> {
     ghost count = { 6 };
 }
 
-impl<A: Drop, B: Drop, C: Drop, D: Drop, E: Drop, F: Drop, G: Drop> Parts
+impl<A: Drop, B: Drop, C: Drop, D: Drop, E: Drop, F: Drop, G: Drop> AtMostTwelveParts
     for OneOf7<A, B, C, D, E, F, G> {
     ghost count = { 7 };
 }
 
-impl<A: Drop, B: Drop, C: Drop, D: Drop, E: Drop, F: Drop, G: Drop, H: Drop> Parts
+impl<A: Drop, B: Drop, C: Drop, D: Drop, E: Drop, F: Drop, G: Drop, H: Drop> AtMostTwelveParts
     for OneOf8<A, B, C, D, E, F, G, H> {
     ghost count = { 8 };
 }

@@ -7,8 +7,8 @@ ghost use Rattle.cbor_model.specs.Document.{struct_variant};
 use crate::serialize::Serialize;
 use crate::tuple_documents::{FieldsDocument, TupleDocuments};
 use cbor_parts::{
-    FieldNames, Newtype, OneOf1, OneOf2, OneOf3, OneOf4, OneOf5, OneOf6, OneOf7, OneOf8, Parts,
-    Schema, Struct, Tuple,
+    AtMostTwelveParts, FieldNames, Newtype, OneOf1, OneOf2, OneOf3, OneOf4, OneOf5, OneOf6, OneOf7,
+    OneOf8, Schema, Struct, Tuple,
 };
 
 /// A variant that has a document.
@@ -66,7 +66,7 @@ pub trait WrittenBy<P>: Sized {
     ghost document: { Self → Doc };
 }
 
-impl<P: PartsDocument + Parts, T: Schema<Parts = P>> WrittenBy<P> for T {
+impl<P: PartsDocument + AtMostTwelveParts, T: Schema<Parts = P>> WrittenBy<P> for T {
     ghost document = { λ x. P.document T.names (T.parts x) };
 }
 

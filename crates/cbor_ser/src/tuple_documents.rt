@@ -1,7 +1,7 @@
 //! The documents of tuples: of the fields of a struct, and of the parts of a variant.
 
 use crate::serialize::Serialize;
-use cbor_parts::{Optional, OrDefault, Parts};
+use cbor_parts::{AtMostTwelveParts, Optional, OrDefault};
 
 /// What a field of a struct is that has a document: a type that is written; [`OrDefault`] of one,
 /// which is written too; or [`Optional`] of one, which is left out where it is None.
@@ -32,7 +32,7 @@ impl<T: Serialize + Drop> FieldDocument for OrDefault<T> {
 }
 
 /// The fields of a struct that have documents: a tuple.
-pub trait FieldsDocument: Parts {
+pub trait FieldsDocument: AtMostTwelveParts {
     ghost use Rattle.std.specs.Prelude.{List, ℕ};
     ghost use Rattle.cbor_model.specs.Document.{Fields};
 
@@ -41,7 +41,7 @@ pub trait FieldsDocument: Parts {
 }
 
 /// The parts of a variant that have documents: a tuple.
-pub trait TupleDocuments: Parts {
+pub trait TupleDocuments: AtMostTwelveParts {
     ghost use Rattle.cbor_model.specs.Document.{Docs};
 
     // What the parts are written as.

@@ -30,10 +30,10 @@ extends o old new None (Some e) took h = refl
 extends o old new (Some es) (Some e) took h =
     run_snoc o start es e ∙ (ap (option_and_then (λ t. step o t e)) h ∙ took)
 
-pub finishes : (o : Options) (log : Log) (s : State) (bytes : List ℕ) → Follows o log s → whole s ≡ Some bytes → AreBytesOf o log bytes
+pub finishes : (o : Options) (log : Log) (s : State) (bytes : List ℕ) → is_some log ≡ true → Follows o log s → whole s ≡ Some bytes → AreBytesOf o log bytes
 unfolding document
-finishes o None s bytes h is = tt
-finishes o (Some es) s bytes h is = ap (option_and_then whole) h ∙ is
+finishes o None s bytes known h is = absurd cc
+finishes o (Some es) s bytes known h is = ap (option_and_then whole) h ∙ is
 
 pub moved : (o p : Options) (old new : State) (log more : Log) (event : Option Event)
     → more ≡ option_and_then (then log) event → p ≡ o

@@ -421,7 +421,7 @@ pub document_item : (o : Options) (es : List Event) (bs : List ℕ) → document
 unfolding document
 document_item o es bs is = document_by o es (run o start es) bs refl is
 
--- where the events are known, what was sent is one
-pub log_item : (o : Options) (log : Log) (bs : List ℕ) → is_some log ≡ true → AreBytesOf o log bs → IsItem bs
-log_item o None bs known is = absurd cc
-log_item o (Some es) bs known is = document_item o es bs is
+-- what was sent is one
+pub log_item : (o : Options) (log : Log) (bs : List ℕ) → AreBytesOf o log bs → IsItem bs
+log_item o None bs is = absurd is
+log_item o (Some es) bs is = document_item o es bs is

@@ -1,5 +1,6 @@
 -- The bytes that each event of serde's is written as.
-use Rattle.std.specs.Prelude.{◌≡◌, ℕ, zero, suc, ◌+◌, ◌-◌, ◌^◌, ℤ, pos, negsuc, Bool, true, false, not, ◌&&◌, ◌==◌, nat_lt, if◌then◌else◌, Option, Some, None, option_map, option_and_then, is_some, List, [], ◌∷◌, ◌++◌, length, encode_utf8, IfSome}
+use Rattle.std.specs.Prelude.{◌≡◌, ℕ, zero, suc, ◌+◌, ◌-◌, ◌^◌, ℤ, pos, negsuc, Bool, true, false, not, ◌&&◌, ◌==◌, nat_lt, if◌then◌else◌, Option, Some, None, option_map, option_and_then, is_some, List, [], ◌∷◌, ◌++◌, length, encode_utf8}
+use Rattle.std.specs.Option.{IsSomeAnd}
 use Rattle.std.specs.Str.{is_utf8}
 use Rattle.std.specs.List.{list_all}
 use Rattle.cbor_model.specs.Acceptable.{IsAcceptable, max_depth}
@@ -219,9 +220,9 @@ whole s = if is_empty s.outer && (not s.flattens && (not s.level.at_value && lef
 unfoldable pub document : Options → List Event → Option (List ℕ)
 document o es = option_and_then whole (run o start es)
 
--- where the events are known, these are the bytes of their document
+-- the events are known, and these are the bytes of their document
 abbrev pub AreBytesOf : Options → Log → List ℕ → Type 0
-AreBytesOf o log bytes = IfSome log (λ es. document o es ≡ Some bytes)
+AreBytesOf o log bytes = IsSomeAnd log (λ es. document o es ≡ Some bytes)
 
 -- the bytes encode one acceptable item
 pub record IsItem (bytes : List ℕ) : Type 0 where

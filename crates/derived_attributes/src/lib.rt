@@ -3,6 +3,7 @@
 
 use serde::{Deserialize, Deserializer, Format, Serialize, Serializer};
 use std::alloc::Global;
+use std::borrow::CowStr;
 
 /// Other cases of names, and a variant that has more than one name.
 #[derive(Debug, Drop, Serialize, Deserialize)]
@@ -111,6 +112,23 @@ impl From<Percent> for u8 {
     }
 }
 
+/// Another type, each value of which makes one.
+#[derive(Clone, Copy, Debug, Drop, Serialize, Deserialize)]
+#[serde(from = "Option<u8>", into = "u8")]
+pub struct Volume(u8);
+
+impl From<Option<u8>> for Volume {
+    fn from(n: Option<u8>) -> Volume {
+        Volume(n.unwrap_or(50))
+    }
+}
+
+impl From<Volume> for u8 {
+    fn from(volume: Volume) -> u8 {
+        volume.0
+    }
+}
+
 /// Any other name is its last variant.
 #[derive(Debug, Drop, Serialize, Deserialize)]
 #[serde(tag = "kind", rename_all = "lowercase", deny_unknown_fields)]
@@ -119,6 +137,50 @@ pub enum Command {
     Stop,
     #[serde(other)]
     Unknown,
+}
+
+/// A case of the fields of one variant, a variant that is only read, and one that is only written.
+#[derive(Debug, Drop, Serialize, Deserialize)]
+#[serde(rename_all = "lowercase")]
+pub enum Step {
+    #[serde(rename_all = "kebab-case")]
+    Copied { from_slot: u8, to_slot: u8 },
+    Moved(#[serde(serialize_with = "send_negated", deserialize_with = "read_negated")] i32),
+    #[serde(skip_serializing)]
+    Old(u8),
+    #[serde(skip_deserializing)]
+    Waiting,
+}
+
+impl Default for Step {
+    fn default() -> Step {
+        Step::Waiting
+    }
+}
+
+/// A text that is lent where it can be, and a default that isn't read.
+#[derive(Debug, Drop, Serialize, Deserialize)]
+#[serde(expecting = "a task")]
+pub struct Task<'a> {
+    #[serde(borrow)]
+    pub title: CowStr<'a>,
+    #[serde(default)]
+    pub step: Step,
+}
+
+/// A parameter that nothing written holds, and a number that is left out where it is zero.
+#[derive(Debug, Drop, Serialize, Deserialize)]
+#[serde(bound = "")]
+pub struct Cache<T: Drop> {
+    pub hits: u16,
+    #[serde(default, skip_serializing_if = "is_zero")]
+    pub misses: u16,
+    #[serde(skip)]
+    pub kept: Vec<T>,
+}
+
+fn is_zero(n: &u16) -> bool {
+    *n == 0
 }
 
 /// A type of any items.

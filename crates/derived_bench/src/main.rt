@@ -1,6 +1,6 @@
 //! Reads a list of records as a derived type, or reads and writes it, as many times as standard
 //! input says, to be measured: as `cbor_bench` does of a described one. It prints how many bytes
-//! the last turn wrote.
+//! the last turn wrote. Or it reads an untagged enum that contains itself.
 #![tactic(auto)]
 
 use cbor_serde::{Result, from_slice, to_vec};
@@ -20,9 +20,28 @@ struct Record {
     active: bool,
 }
 
+/// A number within maps of one pair, at each of which the first variant that has one reads all that
+/// is within in vain.
+#[derive(Drop, Deserialize)]
+#[serde(untagged, recursive)]
+enum Within {
+    Number(u8),
+    Named {
+        #[serde(recursive)]
+        inner: Box<Within>,
+        name: u8,
+    },
+    Plain {
+        #[serde(recursive)]
+        inner: Box<Within>,
+    },
+}
+
 const READ_RECORDS: u8 = 2;
 
 const READ_AND_WRITE_RECORDS: u8 = 3;
+
+const READ_UNTAGGED: u8 = 4;
 
 fn main(rt: HostRuntime) -> ExitCode {
     match answer_input(&rt) {
@@ -53,6 +72,11 @@ fn answer_input(rt: &HostRuntime) -> Result<bool> {
                 written = rewritten(rt.alloc(), item)?;
             }
             println!(rt; "{written} bytes")?;
+        }
+        [READ_UNTAGGED, times, item @ ..] => {
+            'turns: for _ in 0..*times {
+                let _within: Within = from_slice(rt.alloc(), item)?;
+            }
         }
         _ => return Ok(false),
     }

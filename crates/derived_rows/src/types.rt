@@ -3,7 +3,9 @@
 use crate::answer::{of_both, of_slice};
 use crate::row::Row;
 use cbor_serde::{Options, Result};
-use derived_attributes::{Command, Id, Joined, Kind, Loud, Page, Percent, Preset, Sided, Wide};
+use derived_attributes::{
+    Cache, Command, Id, Joined, Kind, Loud, Page, Percent, Preset, Sided, Step, Task, Volume, Wide,
+};
 use derived_cose::{
     Info, Packed, Protected, PublicKey, Sign1, Sign1Parts, SigningKey, SymmetricKey,
 };
@@ -13,6 +15,7 @@ use derived_keys::{Attestation, Claims, CoseKey};
 use derived_structs::{Moon, Outer, Strict, Tree, Tuned, User};
 use derived_types::{Answer, Folder};
 use std::alloc::Global;
+use std::cmp::Ordering;
 
 /// Whether a row is answered as it says; None where no type has that name. Floats are written in
 /// the shortest width, as the Rust crate writes them.
@@ -96,6 +99,10 @@ fn attributes(options: Options, alloc: Global, row: &Row<'_>) -> Result<Option<b
         "page of kinds" => of_both::<Page<Kind>>(options, alloc, row, bytes)?,
         "page of pages" => of_both::<Page<Page<bool>>>(options, alloc, row, bytes)?,
         "joined" => of_both::<Joined>(options, alloc, row, bytes)?,
+        "volume" => of_both::<Volume>(options, alloc, row, bytes)?,
+        "step" => of_both::<Step>(options, alloc, row, bytes)?,
+        "task" => of_slice::<Task>(options, alloc, row, bytes)?,
+        "cache" => of_both::<Cache<Ordering>>(options, alloc, row, bytes)?,
         _ => return Ok(None),
     };
     Ok(Some(right))

@@ -11,7 +11,7 @@ use serde_cbor::de::{
     BufferedRead, Deserialize, DeserializeOwned, Deserializer, InlineBlock, SliceRead,
 };
 use serde_cbor::ser::{BufferedWrite, IoWrite, Serialize, to_vec_packed};
-use serde_cbor::{Result, from_reader, from_slice, to_vec, to_writer};
+use serde_cbor::{Result, from_reader, from_slice, to_io_writer, to_vec, to_writer};
 use std::alloc::Global;
 use std::io::{BufReader, BufWriter, Read, Write};
 use std::process::ExitCode;
@@ -154,7 +154,7 @@ fn through_writer<'a, T: Deserialize<'a, SliceRead<'a>> + Serialize>(
     let list: Vec<T> = from_slice(alloc, item)?;
     let mut bytes = Vec::new(alloc);
     let mut writer = BufWriter::new(alloc, &mut bytes)?;
-    to_writer(alloc, &mut IoWrite::new(&mut writer), &list)?;
+    to_io_writer(alloc, &mut writer, &list)?;
     writer.flush()?;
     drop(writer);
     Ok(bytes.len())

@@ -28,8 +28,8 @@ pub use Rattle.cbor_read.specs.Source
 pub use Rattle.cbor_read.specs.Sources
 pub use Rattle.cbor_io.specs.Write
 pub use Rattle.cbor_buffered.specs.Block
-pub use Rattle.cbor_buffered.specs.Unsent
 pub use Rattle.cbor_length.specs.Count
+pub use Rattle.cbor_writer.specs.Unsent
 pub use Rattle.cbor_value.specs.Floats
 pub use Rattle.cbor_value.specs.Shortest
 pub use Rattle.cbor_value.specs.View

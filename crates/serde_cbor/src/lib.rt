@@ -63,5 +63,6 @@ pub use cbor_strict as strict;
 pub use cbor_strict::{from_slice_canonical, from_slice_canonical_as};
 pub use cbor_value::raw_value::{RawSlice, RawValue};
 pub use cbor_value::{Value, bytes};
+pub use cbor_writer::to_io_writer;
 
 pub mod value;

@@ -1,5 +1,5 @@
-//! Tests of the source that reads ahead and of the sink that holds what is written: their calls, what
-//! they ask of their devices, and items by them.
+//! Tests of the source that reads ahead, of the sink that holds what is written, and of documents
+//! that go to a writer by blocks: their calls, what they ask of their devices, and items by them.
 #![tactic(auto)]
 
 #[cfg(test)]
@@ -18,3 +18,5 @@ mod peer;
 mod sink;
 #[cfg(test)]
 mod whole;
+#[cfg(test)]
+mod writer;

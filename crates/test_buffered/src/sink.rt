@@ -1,10 +1,10 @@
 //! The sink that holds what is written: what its writer is given, and when.
 
 use crate::devices::Taker;
-use cbor_buffered::BufferedWrite;
 use cbor_io::error::{ErrorCode, Result as Answer};
 use cbor_io::write::Write;
 use cbor_ser::{Serialize, Serializer};
+use cbor_writer::BufferedWrite;
 use std::alloc::{AllocError, Global};
 use std::io;
 use std::io::ErrorKind;
@@ -21,7 +21,7 @@ fn in_pieces(alloc: Global, piece: usize) -> Answer<BufferedWrite<Taker>> {
 }
 
 /// The call reports a fault of the writer, of this kind.
-fn is_fault(rt: &impl Abort, answer: Answer<()>, kind: ErrorKind) -> Done {
+pub fn is_fault(rt: &impl Abort, answer: Answer<()>, kind: ErrorKind) -> Done {
     let Err(e) = answer else {
         return Err(Fail::from("no fault"));
     };
@@ -69,8 +69,8 @@ fn writes_the_examples_of_the_standard(rt: HostRuntime) -> Done {
     Ok(())
 }
 
-// The numbers from 256 to 3255.
-fn numbers(alloc: Global) -> Result<Vec<u16>, AllocError> {
+/// The numbers from 256 to 3255.
+pub fn numbers(alloc: Global) -> Result<Vec<u16>, AllocError> {
     let mut list = Vec::with_capacity(alloc, 3000)?;
     for i in 0..3000_u16 {
         list.push(256 + i)?;
@@ -78,8 +78,8 @@ fn numbers(alloc: Global) -> Result<Vec<u16>, AllocError> {
     Ok(list)
 }
 
-// Their array: a head of three bytes, and three for each of them (RFC 8949, section 3).
-fn are_numbers(rt: &impl Abort, bytes: &[u8]) -> Done {
+/// Their array: a head of three bytes, and three for each of them (RFC 8949, section 3).
+pub fn are_numbers(rt: &impl Abort, bytes: &[u8]) -> Done {
     assert!(rt; bytes.len() == 9003);
     assert!(rt; bytes.get(..3) == Some(b"\x99\x0b\xb8".as_slice()));
     for i in 0..3000_u16 {

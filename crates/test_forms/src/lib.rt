@@ -1,4 +1,5 @@
-//! Tests of the forms of writing by name, against RFC 8949's own examples.
+//! Tests of the forms of writing by name, against RFC 8949's own examples and what authenticators
+//! write.
 #![tactic(auto)]
 
 #[cfg(test)]
@@ -11,3 +12,5 @@ mod floats;
 mod keys;
 #[cfg(test)]
 mod once;
+#[cfg(test)]
+mod protocols;

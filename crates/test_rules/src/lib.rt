@@ -1,4 +1,4 @@
-//! Tests of reading by rules, with the examples of RFC 8949 and of CTAP2.
+//! Tests of reading by rules, with the examples of RFC 8949, of COSE and of CTAP2.
 #![tactic(auto)]
 
 #[cfg(test)]
@@ -15,6 +15,10 @@ mod items;
 mod keys;
 #[cfg(test)]
 mod limits;
+#[cfg(test)]
+mod protocols;
+#[cfg(test)]
+mod published;
 #[cfg(test)]
 mod raw;
 #[cfg(test)]

@@ -90,6 +90,37 @@ fn reports_each_rule(rt: HostRuntime) -> Done {
     Ok(())
 }
 
+// Numbers of RFC 8949, Appendix A, of which dCBOR has another encoding or none: 1.0, 100000.0,
+// 65504.0 after 1, and -18446744073709551616. This rule alone lets 23 stand in a longer head, 1.5
+// in a wider float, another NaN, and 1.0e300, an integer beyond 2^64 - 1.
+#[test]
+fn reports_numbers_that_are_not_reduced(rt: HostRuntime) -> Done {
+    let rules = Rules {
+        reduced_numbers: true,
+        ..Rules::ANY
+    };
+    let rows: [(&[u8], u64); 4] = [
+        (b"\xf9\x3c\0".as_slice(), 3),
+        (b"\xfa\x47\xc3\x50\0".as_slice(), 5),
+        (b"\x82\x01\xf9\x7b\xff".as_slice(), 5),
+        (b"\x3b\xff\xff\xff\xff\xff\xff\xff\xff".as_slice(), 9),
+    ];
+    for (bytes, offset) in rows {
+        let rule = Rule::ReducedNumbers;
+        departs(&rt, rt.alloc(), rules, bytes, rule, offset)?;
+    }
+    let kept: [&[u8]; 4] = [
+        b"\x18\x17".as_slice(),
+        b"\xfa\x3f\xc0\0\0".as_slice(),
+        b"\xf9\x7e\x01".as_slice(),
+        b"\xfb\x7e\x37\xe4\x3c\x88\0\x75\x9c".as_slice(),
+    ];
+    for bytes in kept {
+        keeps(rt.alloc(), rules, bytes)?;
+    }
+    Ok(())
+}
+
 // d8 01 is a tag in a head that isn't the shortest; and 18 01 a key that is a second 1 besides.
 #[test]
 fn reports_a_head_before_what_it_says(rt: HostRuntime) -> Done {

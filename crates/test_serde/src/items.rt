@@ -78,3 +78,25 @@ fn writes_floats_and_refuses_tags(rt: HostRuntime) -> Done {
         "unassigned type at offset 1",
     )
 }
+
+// RFC 8259, of items of RFC 7049, Appendix A: literals, numbers, a string whose characters are
+// escaped, arrays and an object.
+#[test]
+fn go_to_json(rt: HostRuntime) -> Done {
+    let alloc = rt.alloc();
+    for (bytes, text) in [
+        (b"\xf6".as_slice(), "null"),
+        (b"\xf5", "true"),
+        (b"\x39\x03\xe7", "-1000"),
+        (b"\xfb\x3f\xf1\x99\x99\x99\x99\x99\x9a", "1.1"),
+        (b"\x62\"\\", "\"\\\"\\\\\""),
+        (b"\x83\x01\x82\x02\x03\x82\x04\x05", "[1,[2,3],[4,5]]"),
+        (b"\xa2\x61a\x01\x61b\x82\x02\x03", "{\"a\":1,\"b\":[2,3]}"),
+    ] {
+        let item: Item = from_slice(alloc, bytes)?;
+        assert_eq!(rt; serde_json::to_string(alloc, &item)?.as_str(), text);
+        let again: Item = serde_json::from_str(alloc, text)?;
+        assert!(rt; again == item);
+    }
+    Ok(())
+}

@@ -1,5 +1,5 @@
 //! Tests over `cbor_serde`: each call once, what a type may not send, how often it is asked,
-//! options, values, byte strings, devices that fail or wait, and streams of items.
+//! options, values, byte strings, want of memory, devices that fail or wait, and streams of items.
 #![tactic(auto)]
 
 #[cfg(test)]
@@ -16,6 +16,8 @@ mod floats;
 mod items;
 #[cfg(test)]
 mod long;
+#[cfg(test)]
+mod memory;
 #[cfg(test)]
 mod once;
 #[cfg(test)]

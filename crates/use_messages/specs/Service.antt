@@ -9,7 +9,7 @@ use Rattle.serde_cbor.specs.declared.error.Error.{Error}
 use Rattle.use_messages.specs.declared.service.Stopped.{Stopped}
 use Rattle.use_messages.specs.declared.service.Stopped.TheVariants.{Broken, Unsent}
 
--- ---- what was served, of the bytes that a reader gives, to a sink
+-- ---- what was served, of the bytes that a reader gives, to a writer
 
 module _ {M : Type 0} (reads : Raw → M → Type 0) (reply : M → List ℕ) (bytes : List ℕ)
     (old new : Option (List ℕ)) where

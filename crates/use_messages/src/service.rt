@@ -9,8 +9,8 @@ ghost use Rattle.use_messages.specs.Service.{Serves};
 
 use crate::messages::{Reply, Request};
 use serde_cbor::de::Readable;
-use serde_cbor::ser::{Serialize, Write, to_writer};
-use serde_cbor::{Deserializer, Error};
+use serde_cbor::ser::Serialize;
+use serde_cbor::{Deserializer, Error, to_io_writer};
 use std::alloc::Global;
 use std::io;
 
@@ -25,7 +25,7 @@ pub enum Stopped {
 
 /// Answers each request that the reader gives by one reply, before it asks for the next byte. It
 /// stops at the first that is broken, and where a reply isn't written whole.
-pub fn serve<R: io::Read + Drop, W: Write>(
+pub fn serve<R: io::Read + Drop, W: io::Write>(
     alloc: Global,
     reader: R,
     writer: &mut W,
@@ -34,7 +34,7 @@ pub fn serve<R: io::Read + Drop, W: Write>(
     ensures { (bytes : List ℕ) → Gave (R.remaining reader) bytes
         → Serves (⟦<Request as Readable>⟧.reads from_reader_context)
         (λ q. document_bytes (⟦<Reply as Serialize>⟧.document (reply_to q)) false false) bytes
-        (W.written writer.old) (W.written writer.new) result }
+        (W.contents writer.old) (W.contents writer.new) result }
 {
     let mut stream = Deserializer::from_reader(alloc, reader).into_iter::<Request>();
     let mut at = 0;
@@ -43,7 +43,7 @@ pub fn serve<R: io::Read + Drop, W: Write>(
             Ok(request) => request,
             Err(error) => return Err(Stopped::Broken { at, error }),
         };
-        if let Err(error) = to_writer(alloc, writer, &reply_to(request)) {
+        if let Err(error) = to_io_writer(alloc, writer, &reply_to(request)) {
             return Err(Stopped::Unsent(error));
         }
         at = stream.byte_offset();

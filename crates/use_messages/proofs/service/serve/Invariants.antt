@@ -11,7 +11,7 @@ abbrev pub invariant-requests : goal.invariant-requests
 invariant-requests g l = record {
   served : (bytes : List ℕ) → Gave (g.R.Read.remaining l.fn.reader) bytes
       → HasServed reads reply bytes (standing (input_of_reader g.R.Read.remaining) l.stream)
-      (g.W.Write.written l.initial.writer) (g.W.Write.written l.writer);
+      (g.W.Write.contents l.initial.writer) (g.W.Write.contents l.writer);
   at : l.at ≡ (standing (input_of_reader g.R.Read.remaining) l.stream).input.offset;
 }
 

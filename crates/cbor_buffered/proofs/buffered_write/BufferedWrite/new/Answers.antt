@@ -1,5 +1,0 @@
-use Rattle.cbor_buffered.proofs.Sent.{nothing_held}
-use Rattle.cbor_buffered.proofs.buffered_write.BufferedWrite.new.Goals as goal
-
-pub returns-clause-ok : goal.returns-clause-ok
-returns-clause-ok g c = nothing_held (g.W.Write.contents c.args.writer)

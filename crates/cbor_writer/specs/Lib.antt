@@ -1,0 +1,3 @@
+pub mod Given
+pub mod Held
+pub mod Unsent

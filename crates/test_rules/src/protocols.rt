@@ -1,0 +1,124 @@
+//! What public protocols print: whether CTAP2 would accept it, and whether a map has a key twice.
+
+use crate::checks::{departs, keeps};
+use crate::published::{
+    ATTESTATION, CLAIMS, CREDENTIAL_KEY, INFO, KEY_SET, MESSAGE, SIGNING_KEY, SYMMETRIC_128,
+    SYMMETRIC_256, TOKEN,
+};
+use cbor_rules::{KeyOrder, Rule, Rules};
+use std::alloc::Global;
+use std::process::Abort;
+use test_checks::Done;
+
+/// The bytes after the first.
+fn behind_first(bytes: &[u8]) -> &[u8] {
+    match bytes.split_first() {
+        Some((_, rest)) => rest,
+        None => bytes,
+    }
+}
+
+/// A map with one pair more has a key twice: its head is this one, its pairs are those of a map
+/// whose head is one byte, and then this pair.
+fn repeats(
+    rt: &impl Abort,
+    alloc: Global,
+    head: &[u8],
+    map: &[u8],
+    pair: &[u8],
+    offset: u64,
+) -> Done {
+    let mut bytes = head.to_vec(alloc)?;
+    bytes.extend_from_slice(behind_first(map))?;
+    bytes.extend_from_slice(pair)?;
+    keeps(alloc, Rules::ANY, &bytes)?;
+    let rule = Rule::UniqueKeys;
+    departs(rt, alloc, Rules::UNIQUE_KEYS, &bytes, rule, offset)
+}
+
+// The key's labels are 01, 03, 20, 21 and 22: those of the first type, and then those of the
+// second, all of one byte. The members of the answer are 1 to 6, and its options are texts: `rk`,
+// `up` and `uv` of two bytes, `plat` of four, `clientPin` of nine. So both are in the order of
+// CTAP2 and in that of lengths. Heads are the shortest: 58 20 has 32 bytes, and 19 04 b0 is 1200.
+#[test]
+fn reads_answers_of_authenticators(rt: HostRuntime) -> Done {
+    for bytes in [CREDENTIAL_KEY, INFO] {
+        keeps(rt.alloc(), Rules::CTAP2, bytes)?;
+        keeps(rt.alloc(), Rules::LENGTH_FIRST, bytes)?;
+    }
+    Ok(())
+}
+
+// `fmt`, `attStmt` and `authData` have three, seven and eight bytes; `alg`, `sig` and `x5c` have
+// three each, in the order of the alphabet. The strings have 70 (58 46), 732 (59 02 dc) and 196
+// bytes (58 c4).
+#[test]
+fn reads_an_attestation(rt: HostRuntime) -> Done {
+    keeps(rt.alloc(), Rules::CTAP2, ATTESTATION)?;
+    keeps(rt.alloc(), Rules::LENGTH_FIRST, ATTESTATION)
+}
+
+// COSE leaves the order of labels open, and these RFCs print the negative ones first: so 1, of the
+// first type, follows -1 or -3, of the second; and -3, which is 22, follows -4, which is 23.
+#[test]
+fn refuses_keys_of_cose_in_the_order_of_rfcs(rt: HostRuntime) -> Done {
+    let rows: [(&[u8], u64); 4] = [
+        // a4, 20, 50 and 16 bytes, 01: 1 + 1 + 17 + 1
+        (SYMMETRIC_128, 20),
+        // a4, 20, 58 20 and 32 bytes, 01: 1 + 1 + 34 + 1
+        (SYMMETRIC_256, 37),
+        // a7, 23, 58 20 and 32 bytes, 22: 1 + 1 + 34 + 1
+        (SIGNING_KEY, 37),
+        // 84 a5, 20 01, 21 and 34 bytes, 22 and 34 bytes, 01: 2 + 2 + 35 + 35 + 1
+        (KEY_SET, 75),
+    ];
+    for (bytes, offset) in rows {
+        let rule = Rule::AscendingKeys;
+        departs(&rt, rt.alloc(), Rules::CTAP2, bytes, rule, offset)?;
+        // the order is all that CTAP2 has against them
+        let unique = Rules::CTAP2.with_keys(KeyOrder::Unique);
+        keeps(rt.alloc(), unique, bytes)?;
+    }
+    Ok(())
+}
+
+// CTAP2 has no tags: d2 is one, in one byte. What it tags is an array of h'a10126', the map of 4
+// to a string, and two more strings, with the shortest heads: that keeps the rules. The protected
+// header, {1: -7}, and the claims are items by themselves, which stand in byte strings there.
+#[test]
+fn refuses_messages_with_their_tags(rt: HostRuntime) -> Done {
+    for bytes in [TOKEN, MESSAGE] {
+        departs(&rt, rt.alloc(), Rules::CTAP2, bytes, Rule::NoTags, 1)?;
+        keeps(rt.alloc(), Rules::CTAP2, behind_first(bytes))?;
+    }
+    keeps(rt.alloc(), Rules::CTAP2, CLAIMS)?;
+    keeps(rt.alloc(), Rules::CTAP2, b"\xa1\x01\x26".as_slice())
+}
+
+// RFC 9052, section 9, asks that no label stands twice in a map, and asks for no order.
+#[test]
+fn reads_keys_of_cose_in_any_order(rt: HostRuntime) -> Done {
+    let rows = [
+        SYMMETRIC_128,
+        SYMMETRIC_256,
+        SIGNING_KEY,
+        KEY_SET,
+        CREDENTIAL_KEY,
+    ];
+    for bytes in rows {
+        keeps(rt.alloc(), Rules::UNIQUE_KEYS, bytes)?;
+    }
+    Ok(())
+}
+
+// The keys have 37, 132 and 77 bytes. Behind these comes the label that stands twice.
+#[test]
+fn refuses_a_label_twice(rt: HostRuntime) -> Done {
+    let alloc = rt.alloc();
+    repeats(&rt, alloc, b"\xa5", SYMMETRIC_128, b"\x03\x0a", 38)?;
+    // within an array, and with the label 3 in a longer head
+    repeats(&rt, alloc, b"\x81\xa5", SYMMETRIC_128, b"\x03\x0a", 39)?;
+    repeats(&rt, alloc, b"\xa5", SYMMETRIC_128, b"\x18\x03\x0a", 39)?;
+    repeats(&rt, alloc, b"\xa8", SIGNING_KEY, b"\x03\x26", 133)?;
+    repeats(&rt, alloc, b"\xa6", CREDENTIAL_KEY, b"\x20\x01", 78)
+}
