@@ -1,11 +1,12 @@
 -- Structs of named fields.
-use Rattle.std.specs.Prelude.{◌≡◌, ℕ, suc, List, [], ◌∷◌, ◌++◌, codes, Option, Some, None, ◌⊎◌, refl}
+use Rattle.std.specs.Prelude.{◌≡◌, ℕ, ℤ, suc, List, [], ◌∷◌, ◌++◌, codes, Option, Some, None, ◌⊎◌, refl}
 use Rattle.cbor_model.specs.Head.{no_bytes, one_byte}
 use Rattle.cbor_model.specs.Raw as raw
 use Rattle.cbor_model.specs.Raw.{Raw, RawPairs, no_raw_pairs, raw_pair}
 use Rattle.cbor_model.specs.Readable.{PassesTags}
-use Rattle.cbor_decode_as.specs.Identifiers.{IsIdentifier}
+use Rattle.cbor_decode_as.specs.Identifiers.{IsIdentifier, IsLabel}
 use Rattle.cbor_decode_as.specs.Maps.{AsMap}
+use Rattle.cbor_parts.specs.Keys.{Keys}
 use Rattle.cbor_de.specs.declared.field.Field.{Field}
 use Rattle.cbor_de.specs.declared.field.Field.TheVariants.{Known, Unknown}
 
@@ -18,30 +19,50 @@ place_in Unknown = None
 abbrev pub IsField : List (List ℕ) → Raw → Field → Type 0
 IsField names r field = PassesTags (IsIdentifier names) r (place_in field)
 
+-- The field whose label a key is, an integer within tags.
+abbrev pub IsLabelled : List ℤ → Raw → Field → Type 0
+IsLabelled labels r field = PassesTags (IsLabel labels) r (place_in field)
+
+-- The field that a key means: by its name or its number, or where there are labels, by its label.
+abbrev pub IsKeyedBy : List (List ℕ) → Option (List ℤ) → Raw → Field → Type 0
+IsKeyedBy names None = IsField names
+IsKeyedBy names (Some labels) = IsLabelled labels
+
+abbrev pub IsKeyed : Keys → Raw → Field → Type 0
+IsKeyed keys = IsKeyedBy keys.names keys.labels
+
 -- any item, of which nothing is kept
 abbrev pub IsAny : Raw → Unit {0} → Type 0
 IsAny r u = Unit {0}
 
--- each key is a number from 0 or a name, of a field or of none
-abbrev pub AreFields : List (List ℕ) → RawPairs → Type 0
-AreFields names no_raw_pairs = Unit {0}
-AreFields names (raw_pair k v rs) = ((field : Field) × IsField names k field) × AreFields names rs
+-- What follows is of any way in which keys mean fields (`keyed`): by their names, as `IsField`, or
+-- by labels.
+
+-- a key means one field at the most
+abbrev pub MeansOneField : (Raw → Field → Type 0) → Type 0
+MeansOneField keyed = (r : Raw) (p q : Field) → keyed r p → keyed r q → p ≡ q
+
+-- each key means a field, or none
+abbrev pub AreFields : (Raw → Field → Type 0) → RawPairs → Type 0
+AreFields keyed no_raw_pairs = Unit {0}
+AreFields keyed (raw_pair k v rs) = ((field : Field) × keyed k field) × AreFields keyed rs
 
 -- no key is the i-th field
-abbrev pub Absent : List (List ℕ) → ℕ → RawPairs → Type 0
-Absent names i no_raw_pairs = Unit {0}
-Absent names i (raw_pair k v rs) = (IsField names k (Known i) → ⊥) × Absent names i rs
+abbrev pub Absent : (Raw → Field → Type 0) → ℕ → RawPairs → Type 0
+Absent keyed i no_raw_pairs = Unit {0}
+Absent keyed i (raw_pair k v rs) = (keyed k (Known i) → ⊥) × Absent keyed i rs
 
 -- one key alone is the i-th field, and this is its value
-abbrev pub Once : List (List ℕ) → ℕ → RawPairs → Raw → Type 0
-Once names i no_raw_pairs v = ⊥
-Once names i (raw_pair k w rs) v =
-    (IsField names k (Known i) × (w ≡ v) × Absent names i rs)
-    ⊎ ((IsField names k (Known i) → ⊥) × Once names i rs v)
+abbrev pub Once : (Raw → Field → Type 0) → ℕ → RawPairs → Raw → Type 0
+Once keyed i no_raw_pairs v = ⊥
+Once keyed i (raw_pair k w rs) v =
+    (keyed k (Known i) × (w ≡ v) × Absent keyed i rs)
+    ⊎ ((keyed k (Known i) → ⊥) × Once keyed i rs v)
 
 -- the i-th field is there once, and its value is read as x
-abbrev pub IsFieldRead : {A : Type 0} → List (List ℕ) → ℕ → (Raw → A → Type 0) → RawPairs → A → Type 0
-IsFieldRead names i reads rs x = (v : Raw) × Once names i rs v × reads v x
+abbrev pub IsFieldRead : {A : Type 0} → (Raw → Field → Type 0) → ℕ → (Raw → A → Type 0) → RawPairs
+    → A → Type 0
+IsFieldRead keyed i reads rs x = (v : Raw) × Once keyed i rs v × reads v x
 
 -- ---- structs
 
@@ -66,25 +87,33 @@ abbrev pub field : {S A : Type 0} → (Raw → A → Type 0) → (S → A) → F
 field reads of = field_or reads refused of
 
 -- the i-th field is x: it is there once and read so, or it may be absent, is, and is x then
-abbrev pub IsFieldOr : {A : Type 0} → IfAbsent A → List (List ℕ) → ℕ → (Raw → A → Type 0) → RawPairs → A → Type 0
-IsFieldOr refused names i reads rs x = IsFieldRead names i reads rs x
-IsFieldOr (taken missing) names i reads rs x = IsFieldRead names i reads rs x ⊎ (Absent names i rs × missing x)
+abbrev pub IsFieldOr : {A : Type 0} → IfAbsent A → (Raw → Field → Type 0) → ℕ
+    → (Raw → A → Type 0) → RawPairs → A → Type 0
+IsFieldOr refused keyed i reads rs x = IsFieldRead keyed i reads rs x
+IsFieldOr (taken missing) keyed i reads rs x =
+    IsFieldRead keyed i reads rs x ⊎ (Absent keyed i rs × missing x)
 
--- each field, from the i-th name on, is its part of the struct
-abbrev pub HasFields : {S : Type 0} → List (List ℕ) → ℕ → List (FieldOf S) → RawPairs → S → Type 0
-HasFields names i [] rs x = Unit {0}
-HasFields names i (d ∷ fields) rs x =
-    IsFieldOr d.missing names i d.reads rs (d.of x) × HasFields names (suc i) fields rs x
+-- each field, from the i-th on, is its part of the struct
+abbrev pub HasFields : {S : Type 0} → (Raw → Field → Type 0) → ℕ → List (FieldOf S) → RawPairs → S
+    → Type 0
+HasFields keyed i [] rs x = Unit {0}
+HasFields keyed i (d ∷ fields) rs x =
+    IsFieldOr d.missing keyed i d.reads rs (d.of x) × HasFields keyed (suc i) fields rs x
 
--- The pairs of a struct: each key is a number from 0 or a name, and each field is there once, or is
--- absent where it may be. A pair of another key is passed over.
-pub record AreFieldsOf {S : Type 0} (names : List (List ℕ)) (fields : List (FieldOf S)) (rs : RawPairs) (x : S) : Type 0 where
-  pub keys : AreFields names rs
-  pub read : HasFields names 0 fields rs x
+-- The pairs of a struct: each key means a field or none, and each field is there once, or is absent
+-- where it may be. A pair of a key that means none is passed over.
+pub record AreFieldsOf {S : Type 0} (keyed : Raw → Field → Type 0) (fields : List (FieldOf S))
+    (rs : RawPairs) (x : S) : Type 0 where
+  pub keys : AreFields keyed rs
+  pub read : HasFields keyed 0 fields rs x
 
--- a struct of fields with these names, in any order, within tags
+-- a struct of these fields, in any order, within tags
+abbrev pub IsMapOf : {S : Type 0} → (Raw → Field → Type 0) → List (FieldOf S) → Raw → S → Type 0
+IsMapOf keyed fields = PassesTags (AsMap (AreFieldsOf keyed fields))
+
+-- a struct of fields with these names: each key is a number from 0 or a name, of a field or of none
 abbrev pub IsStruct : {S : Type 0} → List (List ℕ) → List (FieldOf S) → Raw → S → Type 0
-IsStruct names fields = PassesTags (AsMap (AreFieldsOf names fields))
+IsStruct names = IsMapOf (IsField names)
 
 -- the texts of the errors of a field that isn't there, and of one that is there twice
 abbrev pub missing_text : List ℕ → List ℕ
@@ -101,9 +130,9 @@ two_pairs = raw_pair (raw.unsigned no_bytes 0) (raw.unsigned no_bytes 7)
     (raw_pair (raw.unsigned one_byte 5) (raw.unsigned no_bytes 8) no_raw_pairs)
 
 -- 0 is the first field, and 5 is none
-keys_of_fields : AreFields ((0x61 ∷ []) ∷ (0x62 ∷ []) ∷ []) two_pairs
+keys_of_fields : AreFields (IsField ((0x61 ∷ []) ∷ (0x62 ∷ []) ∷ [])) two_pairs
 keys_of_fields = ((Known 0, refl), ((Unknown, refl), tt))
 
 -- so the second is absent
-no_second : Absent ((0x61 ∷ []) ∷ (0x62 ∷ []) ∷ []) 1 two_pairs
+no_second : Absent (IsField ((0x61 ∷ []) ∷ (0x62 ∷ []) ∷ [])) 1 two_pairs
 no_second = ((λ e. cc), ((λ e. cc), tt))

@@ -264,7 +264,7 @@ impl<R: Source> Deserializer<R> {
     /// assert_eq!(rt; u8::deserialize(&mut de)?, 1);
     /// assert!(rt; matches!(de.end(), Err(e) if e.offset() == 2)); // a second item
     /// ```
-    #[tactic(auto, using(crate::proofs::Faults::end_reported))]
+    #[tactic(auto, using(crate::proofs::refusals::Faults::end_reported))]
     pub fn end(&mut self) -> Result<()>
         ensures read { Ends R.refusals (R.source self.old.decoder.source) result }
         ensures takes { EndTakes R.refusals (R.source self.old.decoder.source)

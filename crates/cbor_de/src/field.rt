@@ -11,7 +11,9 @@ ghost use Rattle.cbor_decode_as.specs.Accesses.{most_left};
 ghost use Rattle.cbor_decode_as.specs.Cases.{HasCase, ReportsBadKey, key_cases};
 ghost use Rattle.cbor_decode_as.specs.Identifiers.{IsMadeBy, NamesNoKey, place_of, texts};
 ghost use Rattle.cbor_decode_as.specs.MapAccesses.{TakesKey};
-ghost use Rattle.cbor_de.specs.Structs.{IsField, place_in, missing_text, duplicate_text};
+ghost use Rattle.cbor_parts.specs.Keys.{AreKeysOf, keys_of};
+ghost use Rattle.cbor_de.specs.Structs.{IsField, IsKeyed, IsLabelled, place_in};
+ghost use Rattle.cbor_de.specs.Structs.{missing_text, duplicate_text};
 ghost use Rattle.cbor_decode_as.specs.Takes.{OnceMade};
 ghost use Rattle.cbor_decode_as.specs.Takes.{formats_of};
 ghost use Rattle.cbor_de.specs.Forms.{MayReportKey, never};
@@ -21,8 +23,10 @@ use crate::de::Deserializer;
 use cbor_decode::Remaining;
 use cbor_decode_as::collection::more_pairs;
 use cbor_decode_as::identifier::{Lookup, identifier, unnamed};
-use cbor_decode_as::integer::from_zero_at_hand;
+use cbor_decode_as::integer::{from_zero_at_hand, signed_at_hand};
+use cbor_decode_as::label::{label, place_of_label};
 use cbor_io::error::{Error, Result};
+use cbor_parts::FieldKeys;
 use cbor_read::Read;
 use std::alloc::Global;
 
@@ -37,7 +41,7 @@ pub enum Field {
 
 // The field of this number.
 #[inline(always)]
-#[tactic(auto, using(crate::proofs::FieldNames::number_place))]
+#[tactic(auto, using(crate::proofs::structs::FieldNames::number_place))]
 fn numbered(names: &[&str], n: u64) -> Field
     ensures place { place_in result ≡ place_of (texts names.now) n }
     ensures below { IfSome (place_in result) (λ i. i < length names.now) }
@@ -46,6 +50,17 @@ fn numbered(names: &[&str], n: u64) -> Field
         Field::Known(n as usize)
     } else {
         Field::Unknown
+    }
+}
+
+// The field in this place, if there is one.
+#[inline(always)]
+fn placed(place: Option<usize>) -> Field
+    ensures { place_in result ≡ place }
+{
+    match place {
+        Some(place) => Field::Known(place),
+        None => Field::Unknown,
     }
 }
 
@@ -64,26 +79,62 @@ impl<'de, R: Read<'de>> Deserializer<R> {
         if let Some(n) = from_zero_at_hand(&mut self.decoder, u64::MAX) {
             return Ok(numbered(names, n));
         }
-        match identifier(&mut self.decoder, names)? {
-            Some(place) => Ok(Field::Known(place)),
-            None => Ok(Field::Unknown),
+        let place = identifier(&mut self.decoder, names)?;
+        Ok(placed(place))
+    }
+
+    // Reads the field whose label a key is.
+    #[inline(always)]
+    fn labelled(&mut self, labels: &[i64]) -> Lookup<Field>
+        ensures read { OnceMade (IsMadeBy self.new.decoder.refusal)
+            (call.TakesItem R.source R.refusals (IsLabelled labels.now) self.old self.new) result }
+        ensures taken { OnOk result (call.Advances R.source self.old self.new) }
+        ensures below { IfOk result (λ field. IfSome (place_in field)
+            (λ i. i < length labels.now)) }
+        ensures no_key { IfErr result (NamesNoKey self.new.decoder.refusal) }
+        ensures settings { SameSettings self.old.decoder self.new.decoder }
+    {
+        if let Some(number) = signed_at_hand(&mut self.decoder, i64::MAX as u64) {
+            return Ok(placed(place_of_label(labels, number as i128)));
+        }
+        let place = label(&mut self.decoder, labels)?;
+        Ok(placed(place))
+    }
+
+    // Reads the field that a key means by these.
+    #[inline(always)]
+    fn keyed(&mut self, keys: &FieldKeys<'_>) -> Lookup<Field>
+        requires { AreKeysOf (length keys.now.names.now) (keys_of keys.now) }
+        ensures read { OnceMade (IsMadeBy self.new.decoder.refusal)
+            (call.TakesItem R.source R.refusals (IsKeyed (keys_of keys.now)) self.old self.new)
+            result }
+        ensures taken { OnOk result (call.Advances R.source self.old self.new) }
+        ensures below { IfOk result (λ field. IfSome (place_in field)
+            (λ i. i < length keys.now.names.now)) }
+        ensures no_key { IfErr result (NamesNoKey self.new.decoder.refusal) }
+        ensures settings { SameSettings self.old.decoder self.new.decoder }
+    {
+        match keys.labels {
+            None => self.field(keys.names),
+            Some(labels) => self.labelled(labels),
         }
     }
 
-    // Reads the field that the next key names; None where no pair remains.
+    // Reads the field that the next key means; None where no pair remains.
     #[inline(always)]
     #[tactic(auto, using(cbor_decode_as::proofs::facts::Places::unnamed_stands))]
     pub(crate) fn next_field(
         &mut self,
         remaining: &mut Remaining,
-        names: &[&str],
+        keys: &FieldKeys<'_>,
     ) -> Lookup<Option<Field>>
+        requires { AreKeysOf (length keys.now.names.now) (keys_of keys.now) }
         ensures read { OnceMade (IsMadeBy self.new.decoder.refusal)
-            (TakesKey R.refusals (formats_of self.old.decoder.formats) (IsField (texts names.now))
+            (TakesKey R.refusals (formats_of self.old.decoder.formats) (IsKeyed (keys_of keys.now))
             self.old.decoder.levels remaining.old remaining.new
             (R.source self.old.decoder.source) (R.source self.new.decoder.source)) result }
         ensures below { IfOk result (λ next. IfSome next (λ field.
-            IfSome (place_in field) (λ i. i < length names.now))) }
+            IfSome (place_in field) (λ i. i < length keys.now.names.now))) }
         // Nothing remains after the last pair, and a loop over the fields ends.
         ensures remains { IfOk result (λ next. MatchOption next (remaining.new ≡ Counted 0)
             (λ k. most_left remaining.new (R.source self.new.decoder.source)
@@ -99,24 +150,35 @@ impl<'de, R: Read<'de>> Deserializer<R> {
         if !more_pairs(&mut self.decoder, remaining)? {
             return Ok(None);
         }
-        let field = self.field(names)?;
+        let field = self.keyed(keys)?;
         Ok(Some(field))
     }
 }
 
-/// Reads the field that the next key names, of a map of which so much remains; None where no pair
-/// does. It refuses what [`StructAccess::next_field`](crate::StructAccess::next_field) refuses.
+// The message for a key that means nothing.
+#[cold]
+fn expected(keys: &FieldKeys<'_>) -> &'static str {
+    match keys.labels {
+        None => "invalid type: expected a field name",
+        Some(_) => "invalid type: expected a field label",
+    }
+}
+
+/// Reads the field that the next key means by these, of a map of which so much remains; None where
+/// no pair does. It refuses what [`StructAccess::next_field`](crate::StructAccess::next_field)
+/// refuses.
 #[inline(always)]
 pub fn next_key<'de, R: Read<'de>>(
     de: &mut Deserializer<R>,
     remaining: &mut Remaining,
-    names: &[&str],
+    keys: &FieldKeys<'_>,
 ) -> Result<Option<Field>>
+    requires { AreKeysOf (length keys.now.names.now) (keys_of keys.now) }
     ensures read { TakesKey R.refusals (formats_of de.old.decoder.formats)
-        (IsField (texts names.now)) de.old.decoder.levels remaining.old remaining.new
+        (IsKeyed (keys_of keys.now)) de.old.decoder.levels remaining.old remaining.new
         (R.source de.old.decoder.source) (R.source de.new.decoder.source) result }
     ensures below { IfOk result (λ next. IfSome next (λ field.
-        IfSome (place_in field) (λ i. i < length names.now))) }
+        IfSome (place_in field) (λ i. i < length keys.now.names.now))) }
     // Nothing remains after the last pair, and a loop over the fields ends.
     ensures remains { IfOk result (λ next. MatchOption next (remaining.new ≡ Counted 0)
         (λ k. most_left remaining.new (R.source de.new.decoder.source)
@@ -125,16 +187,16 @@ pub fn next_key<'de, R: Read<'de>>(
         remaining.old (R.source de.old.decoder.source)) }
     ensures settings { SameSettings de.old.decoder de.new.decoder }
 {
-    match de.next_field(remaining, names) {
+    match de.next_field(remaining, keys) {
         Ok(next) => Ok(next),
-        Err(why) => Err(unnamed(&mut de.decoder, why, "invalid type: expected a field name")),
+        Err(why) => Err(unnamed(&mut de.decoder, why, expected(keys))),
     }
 }
 
 /// The error of a field that isn't there, as ``missing field `id` ``.
 #[cold]
 #[inline(never)]
-#[tactic(auto, using(crate::proofs::Forms::message_form))]
+#[tactic(auto, using(crate::proofs::refusals::Forms::message_form))]
 pub fn missing_field(alloc: Global, name: &str) -> Error
     ensures text { IsMessageOf (Some (missing_text name.now)) (code_of result) }
     ensures offset { offset_of result ≡ 0 }
@@ -149,7 +211,7 @@ pub fn missing_field(alloc: Global, name: &str) -> Error
 /// The error of a field that is there twice, as ``duplicate field `id` ``.
 #[cold]
 #[inline(never)]
-#[tactic(auto, using(crate::proofs::Forms::message_form))]
+#[tactic(auto, using(crate::proofs::refusals::Forms::message_form))]
 pub fn duplicate_field(alloc: Global, name: &str) -> Error
     ensures text { IsMessageOf (Some (duplicate_text name.now)) (code_of result) }
     ensures offset { offset_of result ≡ 0 }

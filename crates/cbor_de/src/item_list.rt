@@ -46,7 +46,7 @@ pub trait ReadTuple<'de, R: Read<'de>>: ReadableTuple {
 
 // Reads an array of exactly these items.
 #[inline(always)]
-#[tactic(auto, using(crate::proofs::Forms::plain))]
+#[tactic(auto, using(crate::proofs::refusals::Forms::plain))]
 pub(crate) fn read_array<'de, R: Read<'de>, T: ReadTuple<'de, R>>(
     de: &mut Deserializer<R>,
 ) -> Result<T>
@@ -158,7 +158,7 @@ impl<'de, R: Read<'de>, A: Deserialize<'de, R>, F: ReadItems<'de, R>> ReadItems<
 
 // Reads the next item of an array of which so much remains.
 #[inline(always)]
-#[tactic(auto, using(crate::proofs::Forms::plain))]
+#[tactic(auto, using(crate::proofs::refusals::Forms::plain))]
 fn next_part<'de, R: Read<'de>, T: Deserialize<'de, R>>(
     de: &mut Deserializer<R>,
     remaining: &mut Remaining,

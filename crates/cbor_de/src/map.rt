@@ -99,7 +99,7 @@ impl<'a, R: Source> MapAccess<'a, R> {
     /// It refuses as the reading of `K` does, with `WrongStructFormat` before a key of a format
     /// that isn't read, and with `EofWhileParsingMap` where a map of indefinite length has no end.
     #[inline(always)]
-    #[tactic(auto, using(crate::proofs::Forms::plain))]
+    #[tactic(auto, using(crate::proofs::refusals::Forms::plain))]
     pub fn next_key<'de, K: Deserialize<'de, R>>(&mut self) -> Result<Option<K>>
     where
         R: Read<'de>,

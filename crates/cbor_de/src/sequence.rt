@@ -69,7 +69,7 @@ impl<R: Source> Deserializer<R> {
 /// The error of an array that has too few items, as `invalid length 1, expected 2`.
 #[cold]
 #[inline(never)]
-#[tactic(auto, using(crate::proofs::Forms::message_form))]
+#[tactic(auto, using(crate::proofs::refusals::Forms::message_form))]
 pub(crate) fn invalid_length(alloc: Global, found: usize, expected: usize) -> Error
     ensures message { IsMessage result }
     ensures offset { offset_of result ≡ 0 }
@@ -111,7 +111,7 @@ impl<'a, R: Source> SeqAccess<'a, R> {
     /// It refuses as the reading of `T` does, and with `EofWhileParsingArray` where an array of
     /// indefinite length has no end.
     #[inline(always)]
-    #[tactic(auto, using(crate::proofs::Forms::plain))]
+    #[tactic(auto, using(crate::proofs::refusals::Forms::plain))]
     pub fn next_element<'de, T: Deserialize<'de, R>>(&mut self) -> Result<Option<T>>
     where
         R: Read<'de>,
@@ -161,7 +161,7 @@ impl<'a, R: Source> SeqAccess<'a, R> {
     /// assert!(rt; flag);
     /// ```
     #[inline(always)]
-    #[tactic(auto, using(crate::proofs::Forms::plain))]
+    #[tactic(auto, using(crate::proofs::refusals::Forms::plain))]
     pub fn part<'de, T: Deserialize<'de, R>>(&mut self, before: usize, expected: usize) -> Result<T>
     where
         R: Read<'de>,

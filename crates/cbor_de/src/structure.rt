@@ -31,6 +31,7 @@ use cbor_decode::Remaining;
 use cbor_decode_as::collection::{end_map, map_head};
 use cbor_decode_as::identifier::unnamed;
 use cbor_io::error::{Error, Result};
+use cbor_parts::FieldKeys;
 use cbor_read::{Read, Source};
 
 impl<R: Source> Deserializer<R> {
@@ -151,7 +152,11 @@ impl<'a, R: Source> StructAccess<'a, R> {
         ensures outer { self.new.outer ≡ self.old.outer }
         ensures names { self.new.names ≡ self.old.names }
     {
-        match self.de.next_field(&mut self.remaining, self.names) {
+        let keys = FieldKeys {
+            names: self.names,
+            labels: None,
+        };
+        match self.de.next_field(&mut self.remaining, &keys) {
             Ok(next) => {
                 self.value_due = next.is_some();
                 Ok(next)
@@ -203,7 +208,7 @@ impl<'a, R: Source> StructAccess<'a, R> {
 
     /// Reads the value of the field that was named last into its slot. A slot that has a value is
     /// refused with ``duplicate field `id` ``, and keeps it.
-    #[tactic(auto, using(crate::proofs::Forms::plain))]
+    #[tactic(auto, using(crate::proofs::refusals::Forms::plain))]
     pub fn once<'de, V: Deserialize<'de, R>>(
         &mut self,
         name: &str,

@@ -82,7 +82,7 @@ impl<'de, R: Read<'de>> Deserializer<R> {
     }
 
     // Reads the only item of an array that remains.
-    #[tactic(auto, using(cbor_decode_as::proofs::facts::Places::too_short_first, cbor_decode_as::proofs::facts::Places::too_short_later, crate::proofs::Forms::part_plain))]
+    #[tactic(auto, using(cbor_decode_as::proofs::facts::Places::too_short_first, cbor_decode_as::proofs::facts::Places::too_short_later, crate::proofs::refusals::Forms::part_plain))]
     fn only_item<T: Deserialize<'de, R>>(&mut self, mut remaining: Remaining) -> Result<T>
         ensures read { access.TakesContent R.source R.refusals
             (IsPart (T.reads (context self.old.decoder.formats R.lends))) (Array remaining)
@@ -103,7 +103,7 @@ impl<'de, R: Read<'de>> Deserializer<R> {
 
 /// Reads the content of a variant of one part, after its identifier. An identifier alone is refused
 /// with this text, and an array in which nothing follows it with `ArrayTooShort`.
-#[tactic(auto, using(crate::proofs::Forms::part_plain))]
+#[tactic(auto, using(crate::proofs::refusals::Forms::part_plain))]
 pub fn one_part<'de, R: Read<'de>, T: Deserialize<'de, R>>(
     de: &mut Deserializer<R>,
     form: Form,

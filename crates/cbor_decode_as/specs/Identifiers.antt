@@ -1,6 +1,6 @@
 -- What names a field of a struct, or a variant of an enum.
-use Rattle.std.specs.Prelude.{⊤, ◌≡◌, ◌≢◌, ◌⊎◌, ◌<◌, ◌+◌, ℕ, Bool, zero, suc, List, [], ◌∷◌, length, Option, Some, None}
-use Rattle.std.specs.Prelude.{nat_lt, Result, Ok, Err, if◌then◌else◌, refl}
+use Rattle.std.specs.Prelude.{⊤, ◌≡◌, ◌≢◌, ◌⊎◌, ◌<◌, ◌+◌, ℕ, ℤ, pos, negsuc, Bool, zero, suc, List, [], ◌∷◌, length, Option, Some, None}
+use Rattle.std.specs.Prelude.{nat_lt, Result, Ok, Err, if◌then◌else◌, refl, codes}
 use Rattle.std.specs.Prelude as prelude
 use Rattle.std.specs.Borrow.{Bor}
 use Rattle.std.specs.Str.{IsUtf8}
@@ -25,14 +25,14 @@ use Rattle.cbor_decode_as.specs.declared.identifier.Why.TheVariants.{Refused, Ot
 abbrev pub texts : List (Bor (List ℕ)) → List (List ℕ)
 texts names = prelude.map (λ n. n.now) names
 
--- the first of the names that is this text
-abbrev pub IsFirst : List (List ℕ) → List ℕ → ℕ → Type 0
+-- the first of the names, or labels, that is this one
+abbrev pub IsFirst : {A : Type 0} → List A → A → ℕ → Type 0
 IsFirst [] b i = ⊥
 IsFirst (n ∷ ns) b zero = n ≡ b
 IsFirst (n ∷ ns) b (suc i) = (n ≢ b) × IsFirst ns b i
 
--- the place of the first name that is this text, if one is
-abbrev pub IsPlace : List (List ℕ) → List ℕ → Option ℕ → Type 0
+-- the place of the first that is this one, if one is
+abbrev pub IsPlace : {A : Type 0} → List A → A → Option ℕ → Type 0
 IsPlace names b (Some i) = IsFirst names b i
 IsPlace names b None = (i : ℕ) → IsFirst names b i → ⊥
 
@@ -40,11 +40,27 @@ IsPlace names b None = (i : ℕ) → IsFirst names b i → ⊥
 abbrev pub place_of : List (List ℕ) → ℕ → Option ℕ
 place_of names n = if nat_lt n (length names) then Some n else None
 
+-- The place that an item means: an integer by what integers mean (`numbered`), and a text or byte
+-- string as one of these names.
+abbrev pub MeansPlace : (ℤ → Option ℕ → Type 0) → List (List ℕ) → Raw → Option ℕ → Type 0
+MeansPlace numbered names (raw.unsigned w n) place = numbered (pos n) place
+MeansPlace numbered names (raw.negative w n) place = numbered (negsuc n) place
+MeansPlace numbered names r place = (b : List ℕ) × IsString r b × IsPlace names b place
+
+-- a number from 0 is the place of a name itself
+abbrev pub IsPlaceNumber : List (List ℕ) → ℤ → Option ℕ → Type 0
+IsPlaceNumber names (pos n) place = place ≡ place_of names n
+IsPlaceNumber names (negsuc n) place = ⊥
+
 -- The place that an item names: a number from 0 is the place itself, and a text or byte string is a
 -- name. None where nothing is at that place, or has that name.
 abbrev pub IsIdentifier : List (List ℕ) → Raw → Option ℕ → Type 0
-IsIdentifier names (raw.unsigned w n) place = place ≡ place_of names n
-IsIdentifier names r place = (b : List ℕ) × IsString r b × IsPlace names b place
+IsIdentifier names = MeansPlace (IsPlaceNumber names) names
+
+-- The place of the label that an item is: an integer. None where it is no label, as each text and
+-- each byte string.
+abbrev pub IsLabel : List ℤ → Raw → Option ℕ → Type 0
+IsLabel labels = MeansPlace (IsPlace labels) []
 
 -- These bytes name this place, by one byte and what it counts: a number below 24, or the text of a name
 -- of up to 23 bytes.
@@ -114,3 +130,10 @@ number_beyond = refl
 byte_string_is_name : IsIdentifier two_names
     (raw.bytes (record { width = no_bytes; bytes = 0x61 ∷ 0x62 ∷ [] })) (Some 1)
 byte_string_is_name = (0x61 ∷ 0x62 ∷ [], refl, ((λ e. cc), refl))
+
+-- -1, of COSE's labels of a key, is in the third place, and "kty" in none
+label_is_place : IsLabel (pos 1 ∷ pos 3 ∷ negsuc 0 ∷ []) (raw.negative no_bytes 0) (Some 2)
+label_is_place = ((λ e. cc), ((λ e. cc), refl))
+
+text_is_none : IsLabel (pos 1 ∷ []) (raw.text (record { width = no_bytes; bytes = codes "kty" })) None
+text_is_none = (codes "kty", refl, (λ i first. first))

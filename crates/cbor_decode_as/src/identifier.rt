@@ -166,7 +166,7 @@ fn kept<R: Source>(decoder: &mut Decoder<R>, unread: Unread) -> Why
 // Why an item of another kind names nothing, after its head.
 #[cold]
 #[inline(never)]
-fn no_name<R: Source>(decoder: &mut Decoder<R>, head: Head) -> Why
+pub(crate) fn no_name<R: Source>(decoder: &mut Decoder<R>, head: Head) -> Why
     ensures no_key { NamesNoKey decoder.new.refusal result }
     ensures source { decoder.new.source ≡ decoder.old.source }
     ensures settings { SameSettings decoder.old decoder.new }
@@ -265,7 +265,7 @@ fn joined_name<'de, R: Read<'de>>(decoder: &mut Decoder<R>, names: &[&str]) -> D
 
 // Reads a text after its head, as a name.
 #[inline(always)]
-fn text_name<'de, R: Read<'de>>(
+pub(crate) fn text_name<'de, R: Read<'de>>(
     decoder: &mut Decoder<R>,
     names: &[&str],
     n: Option<u64>,
@@ -284,7 +284,7 @@ fn text_name<'de, R: Read<'de>>(
 }
 
 // Reads a byte string after its head, as a name.
-fn bytes_name<'de, R: Read<'de>>(
+pub(crate) fn bytes_name<'de, R: Read<'de>>(
     decoder: &mut Decoder<R>,
     names: &[&str],
     n: Option<u64>,

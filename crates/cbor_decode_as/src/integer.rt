@@ -19,7 +19,7 @@ use cbor_read::Source;
 
 // The number that a head is.
 #[inline(always)]
-fn integer(head: Head) -> Option<i128>
+pub(crate) fn integer(head: Head) -> Option<i128>
     ensures { MatchOption result ((z : ℤ) → IsNumber head z → ⊥) (λ z. IsNumber head z) }
 {
     match head {

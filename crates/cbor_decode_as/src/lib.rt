@@ -20,6 +20,7 @@ pub mod floats;
 pub mod head;
 pub mod identifier;
 pub mod integer;
+pub mod label;
 pub mod null;
 pub mod raw;
 pub mod scalar;

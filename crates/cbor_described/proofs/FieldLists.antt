@@ -14,7 +14,8 @@ use Rattle.cbor_decode.specs.declared.cursor.Remaining.{Remaining}
 use Rattle.cbor_de.specs.Fields.{Slots, none_yet, AreHeld}
 use Rattle.cbor_described.specs.FieldLists.{over, IsLacking, slots_over, FieldTaken, FieldRefused, TakesSlot, TakesField}
 use Rattle.cbor_decode_as.specs.MapAccesses.{IsMapHead}
-use Rattle.cbor_de.specs.Structs.{FieldOf, IsAny, IsStruct}
+use Rattle.cbor_model.specs.Raw.{Raw}
+use Rattle.cbor_de.specs.Structs.{FieldOf, IsAny, IsMapOf, MeansOneField}
 use Rattle.cbor_decode_as.specs.Takes.{TakesItem, formats_of, raws, IsRead, IsNotRead, Refuses}
 use Rattle.cbor_decode_as.proofs.facts.Refusals.{refuses_on}
 use Rattle.cbor_decode_as.proofs.facts.Readings.{refuses_map}
@@ -181,36 +182,36 @@ lacking_is (d ∷ fields) slots (inr h) = let w = lacking_is fields slots.1 h in
 
 -- ---- what a call adds
 
-module _ {S : Type 0} (names : List (List ℕ)) (fields : List (FieldOf S)) where
+module _ {S : Type 0} (keyed : Raw → Field → Type 0) (fields : List (FieldOf S)) where
   -- after the head no field was read
   pub begins_with : (slots : Slots fields) → slots ≡ none_yet fields → {s t : Input} {f g : Formats} {outer levels : ℕ} {all : Remaining}
-      → Step s t (λ l bs rest. IsMapHead (formats_of f) l (item_at (raws (formats_of f) l) outer bs) levels all rest) → g ≡ f → StructSoFar names fields slots s f outer t g levels all
+      → Step s t (λ l bs rest. IsMapHead (formats_of f) l (item_at (raws (formats_of f) l) outer bs) levels all rest) → g ≡ f → StructSoFar keyed fields slots s f outer t g levels all
   begins_with slots none {s} {t} {f} {g} {outer} {levels} {all} head formats =
-      subst (λ (slots : Slots fields). StructSoFar names fields slots s f outer t g levels all) (sym none) (struct_begins names fields head formats)
+      subst (λ (slots : Slots fields). StructSoFar keyed fields slots s f outer t g levels all) (sym none) (struct_begins keyed fields head formats)
 
   -- an Err reports that no struct is there
   pub unread : {w : Input} (allowed : ReadErrorCode → Bool) (f : Formats) (levels : ℕ) (s t : Input) (e : Error) (r : Result S Error) → IsErrAnd r (λ x. x ≡ e)
-      → NoStruct names fields allowed s w f levels (code_of e) (offset_of e) → t ≡ w → TakesItem allowed (formats_of f) (IsStruct names fields) levels s t r
+      → NoStruct keyed fields allowed s w f levels (code_of e) (offset_of e) → t ≡ w → TakesItem allowed (formats_of f) (IsMapOf keyed fields) levels s t r
   unread allowed f levels s t e (Ok x) is none same = absurd is
   unread {w} allowed f levels s t e (Err x) is none same =
-      subst (λ (t : Input). NoStruct names fields allowed s t f levels (code_of x) (offset_of x)) (sym same)
-      (subst (λ (x : Error). NoStruct names fields allowed s w f levels (code_of x) (offset_of x)) (sym is) none)
+      subst (λ (t : Input). NoStruct keyed fields allowed s t f levels (code_of x) (offset_of x)) (sym same)
+      (subst (λ (x : Error). NoStruct keyed fields allowed s w f levels (code_of x) (offset_of x)) (sym is) none)
 
-  module _ {slots : Slots fields} {s : Input} {f : Formats} {outer : ℕ} {t : Input} {g : Formats} {levels : ℕ} {r : Remaining} {so : StructSoFar names fields slots s f outer t g levels r}
-      {field : Field} {new : Remaining} {u : Input} {h : Formats} {n : ℕ} (key : FieldNamed names fields so field new u h n) (i : ℕ) (is : field ≡ Known i) where
+  module _ {slots : Slots fields} {s : Input} {f : Formats} {outer : ℕ} {t : Input} {g : Formats} {levels : ℕ} {r : Remaining} {so : StructSoFar keyed fields slots s f outer t g levels r}
+      {field : Field} {new : Remaining} {u : Input} {h : Formats} {n : ℕ} (key : FieldNamed keyed fields so field new u h n) (i : ℕ) (is : field ≡ Known i) where
     -- the value of a known field was taken
-    pub value_in : {w : Input} {last : Remaining} {k : Formats} {m : ℕ} → k ≡ h → m ≡ n → last ≡ new → (slots' : Slots fields) → FieldTaken (formats_of h) n fields i slots slots' u w → StructSoFar names fields slots' s f outer w k m last
-    value_in {w} {last} {k} {m} formats inside remaining slots' taken = elim (taken_is (formats_of h) n fields i slots slots' u w taken) [
-      | inl v ↦ subst (λ (slots : Slots fields). StructSoFar names fields slots s f outer w k m last) (sym v.same)
-          (field_read names fields so (Some field) field refl refl new key.named key.formats key.inside formats inside remaining (λ (f : Formats). reads_at fields i) v.x i is v.none v.x (λ b means. means) v.read)
-      | inr v ↦ subst (λ (slots : Slots fields). StructSoFar names fields slots s f outer w k m last) (sym v.same)
-          (other_passed names fields so (Some field) field refl refl new key.named key.formats key.inside formats inside remaining (known_other fields is v.beyond) v.read)
+    pub value_in : MeansOneField keyed → {w : Input} {last : Remaining} {k : Formats} {m : ℕ} → k ≡ h → m ≡ n → last ≡ new → (slots' : Slots fields) → FieldTaken (formats_of h) n fields i slots slots' u w → StructSoFar keyed fields slots' s f outer w k m last
+    value_in one {w} {last} {k} {m} formats inside remaining slots' taken = elim (taken_is (formats_of h) n fields i slots slots' u w taken) [
+      | inl v ↦ subst (λ (slots : Slots fields). StructSoFar keyed fields slots s f outer w k m last) (sym v.same)
+          (field_read keyed fields so (Some field) field refl new key.named key.formats key.inside formats inside remaining one (λ (f : Formats). reads_at fields i) v.x i is v.none v.x (λ b means. means) v.read)
+      | inr v ↦ subst (λ (slots : Slots fields). StructSoFar keyed fields slots s f outer w k m last) (sym v.same)
+          (other_passed keyed fields so (Some field) field refl new key.named key.formats key.inside formats inside remaining one (known_other fields is v.beyond) v.read)
     ]
 
     -- or wasn't
-    pub value_not_in : {w : Input} (allowed : ReadErrorCode → Bool) (e : Error) → FieldRefused (formats_of h) n allowed fields i slots u w e → NoStruct names fields allowed s w f outer (code_of e) (offset_of e)
+    pub value_not_in : {w : Input} (allowed : ReadErrorCode → Bool) (e : Error) → FieldRefused (formats_of h) n allowed fields i slots u w e → NoStruct keyed fields allowed s w f outer (code_of e) (offset_of e)
     value_not_in {w} allowed e refused = elim (refused_is (formats_of h) n allowed fields i slots u w e refused) [
-      | inl some ↦ refuses_on (field_twice names fields so (Some field) field refl refl new key.named allowed (code_of e) (offset_of e) i is some.0) some.1
-      | inr (inl none) ↦ field_unread names fields so (Some field) field refl refl new key.named key.formats key.inside (λ (f : Formats). reads_at fields i) allowed (code_of e) (offset_of e) i is none.0 (λ b v means. (v, means)) none.1
-      | inr (inr beyond) ↦ other_unread names fields so (Some field) field refl refl new key.named key.formats key.inside allowed (code_of e) (offset_of e) beyond.1
+      | inl some ↦ refuses_on (field_twice keyed fields so (Some field) field refl new key.named allowed (code_of e) (offset_of e) i is some.0) some.1
+      | inr (inl none) ↦ field_unread keyed fields so (Some field) field refl new key.named key.formats key.inside (λ (f : Formats). reads_at fields i) allowed (code_of e) (offset_of e) i is none.0 (λ b v means. (v, means)) none.1
+      | inr (inr beyond) ↦ other_unread keyed fields so (Some field) field refl new key.named key.formats key.inside allowed (code_of e) (offset_of e) beyond.1
     ]

@@ -1,5 +1,5 @@
 -- What is read by a description of its parts.
-use Rattle.std.proofs.Common.{◌≡◌, ℕ, Bool, List, Ok, Err, sym, subst}
+use Rattle.std.proofs.Common.{◌≡◌, ℕ, Bool, Ok, Err, sym, subst}
 use Rattle.cbor_model.specs.Formats as model
 use Rattle.cbor_model.specs.Raw.{Raw}
 use Rattle.cbor_model.specs.Reader.{item_at}
@@ -11,14 +11,14 @@ use Rattle.cbor_decode.proofs.facts.Steps.{step_map}
 use Rattle.cbor_decode_as.specs.Takes.{TakesItem, raws, IsRead, IsNotRead}
 use Rattle.cbor_decode_as.proofs.facts.Readings.{refuses_map}
 
--- Parts that are read by these names are read as what is made of them, and where none are nothing is.
-module _ {S P : Type 0} (parts : S → P) (reads : List (List ℕ) → Raw → P → Type 0) (allowed : ReadErrorCode → Bool) (f : model.Formats) (levels : ℕ) (s t : Input) {given names : List (List ℕ)} (named : given ≡ names) where
+-- Parts that are read by these names, or keys, are read as what is made of them, and where none are nothing is.
+module _ {S P K : Type 0} (parts : S → P) (reads : K → Raw → P → Type 0) (allowed : ReadErrorCode → Bool) (f : model.Formats) (levels : ℕ) (s t : Input) {given names : K} (named : given ≡ names) where
   pub made : (p : P) (x : S) → parts x ≡ p → TakesItem allowed f (reads given) levels s t (Ok p) → TakesItem allowed f (λ r x. reads names r (parts x)) levels s t (Ok x)
   made p x is = step_map s t (λ l bs rest. IsRead (reads given) (item_at (raws f l) levels bs) p rest) (λ l bs rest. IsRead (λ r x. reads names r (parts x)) (item_at (raws f l) levels bs) x rest)
       (λ l bs rest read. record {
         item = read.item;
         is = read.is;
-        means = subst (λ (names : List (List ℕ)). reads names read.item (parts x)) named (subst (λ (p : P). reads given read.item p) (sym is) read.means);
+        means = subst (λ (names : K). reads names read.item (parts x)) named (subst (λ (p : P). reads given read.item p) (sym is) read.means);
       })
 
   pub not_made : (e : Error) → TakesItem {A = P} allowed f (reads given) levels s t (Err e) → TakesItem {A = S} allowed f (λ r x. reads names r (parts x)) levels s t (Err e)
@@ -26,7 +26,7 @@ module _ {S P : Type 0} (parts : S → P) (reads : List (List ℕ) → Raw → P
       (λ l bs none x rest read. none (parts x) rest (record {
         item = read.item;
         is = read.is;
-        means = subst (λ (names : List (List ℕ)). reads names read.item (parts x)) (sym named) read.means;
+        means = subst (λ (names : K). reads names read.item (parts x)) (sym named) read.means;
       }))
 
 -- What is read as one thing is read as another, and where nothing is the one nothing is the other.

@@ -5,11 +5,11 @@ ghost use Rattle.std.specs.Prelude.{MatchBool};
 ghost use Rattle.std.specs.Bool.{OnFalse};
 ghost use Rattle.std.specs.Option.{is_some};
 ghost use Rattle.cbor_model.specs.Readable.{Context};
+ghost use Rattle.cbor_parts.specs.Keys.{AreKeysOf, keys_of};
 ghost use Rattle.cbor_decode.specs.Decoder.{SameSettings};
 ghost use Rattle.cbor_described.specs.FieldLists.{FieldTaken, IsLacking, TakesField, TakesSlot};
 ghost use Rattle.cbor_de.specs.Fields.{AreHeld, IsHeld, Lacks, none_yet};
-ghost use Rattle.cbor_decode_as.specs.Identifiers.{texts};
-ghost use Rattle.cbor_de.specs.Structs.{IsAny, IsStruct, duplicate_text, missing_text};
+ghost use Rattle.cbor_de.specs.Structs.{IsAny, IsKeyed, IsMapOf, duplicate_text, missing_text};
 ghost use Rattle.cbor_io.specs.Error.{IsMessageOf, code_of};
 ghost use Rattle.cbor_decode.specs.Gives.{ReportsNoForm};
 ghost use Rattle.cbor_decode_as.specs.Takes.{context, formats_of};
@@ -22,6 +22,7 @@ use cbor_de::{
     duplicate_field, missing_field, next_key,
 };
 use cbor_io::error::Result;
+use cbor_parts::FieldKeys;
 use std::alloc::Global;
 
 // The fields of a struct: `()`, or a field and the list of the others, as `(u32, (String, ()))`, or
@@ -380,21 +381,21 @@ fn skip_item<'de, R: Read<'de>>(de: &mut Deserializer<R>) -> Result<()>
     }
 }
 
-// Reads a struct of these fields, in any order, by their names or their numbers.
+// Reads a struct of these fields, in any order, by their keys.
 pub(crate) fn read_fields<'de, R: Read<'de>, F: ReadFields<'de, R>>(
     de: &mut Deserializer<R>,
-    names: &[&str],
+    keys: &FieldKeys<'_>,
 ) -> Result<F>
-    requires { length names.now ≡ F.count }
+    requires { AreKeysOf F.count (keys_of keys.now) }
     ensures read { call.TakesItem R.source R.refusals
-        (IsStruct (texts names.now) (F.fields (context de.old.decoder.formats R.lends)))
+        (IsMapOf (IsKeyed (keys_of keys.now)) (F.fields (context de.old.decoder.formats R.lends)))
         de.old de.new result }
     ensures taken { OnOk result (call.Advances R.source de.old de.new) }
     ensures form { IfErr result (call.MayReport R.source (any_of key_form F.wrong_forms) de.old) }
     ensures settings { SameSettings de.old.decoder de.new.decoder }
 {
     let outer = de.levels_left();
-    let read = fields_within::<R, F>(de, names);
+    let read = fields_within::<R, F>(de, keys);
     leave_to(de, outer);
     read
 }
@@ -403,11 +404,11 @@ pub(crate) fn read_fields<'de, R: Read<'de>, F: ReadFields<'de, R>>(
 #[tactic(auto, using(cbor_de::proofs::facts::Forms::plain))]
 fn fields_within<'de, R: Read<'de>, F: ReadFields<'de, R>>(
     de: &mut Deserializer<R>,
-    names: &[&str],
+    keys: &FieldKeys<'_>,
 ) -> Result<F>
-    requires { length names.now ≡ F.count }
+    requires { AreKeysOf F.count (keys_of keys.now) }
     ensures read { call.TakesItem R.source R.refusals
-        (IsStruct (texts names.now) (F.fields (context de.old.decoder.formats R.lends)))
+        (IsMapOf (IsKeyed (keys_of keys.now)) (F.fields (context de.old.decoder.formats R.lends)))
         de.old de.new result }
     ensures taken { OnOk result (call.Advances R.source de.old de.new) }
     ensures form { IfErr result (call.MayReport R.source (any_of key_form F.wrong_forms) de.old) }
@@ -415,18 +416,18 @@ fn fields_within<'de, R: Read<'de>, F: ReadFields<'de, R>>(
 {
     let mut remaining = map_head(de)?;
     let mut held = F::none();
-    'fields: while let Some(field) = next_key(de, &mut remaining, names)? {
+    'fields: while let Some(field) = next_key(de, &mut remaining, keys)? {
         match field {
             Field::Known(i) => {
                 if F::take_at_hand(de, i, &mut held) {
                     continue;
                 }
-                F::take(de, i, names[i], &mut held)?
+                F::take(de, i, keys.names[i], &mut held)?
             }
             Field::Unknown => skip_item(de)?,
         }
     }
-    let parts = F::required(de.alloc(), names, held)?;
+    let parts = F::required(de.alloc(), keys.names, held)?;
     end_map(de, remaining)?;
     Ok(parts)
 }

@@ -4,14 +4,15 @@ use crate::field_list::{ReadField, ReadFields, read_fields};
 use crate::parts::{ReadParts, ReadableParts};
 use cbor_de::{Deserializer, FieldType, Read};
 use cbor_io::error::Result;
+use cbor_parts::FieldKeys;
 
 impl<A: FieldType, B: FieldType, C: FieldType, D: FieldType, E: FieldType> ReadableParts
     for (A, B, C, D, E) {
     ghost use Rattle.std.specs.Prelude.{[], ◌∷◌};
     ghost use Rattle.cbor_de.specs.Forms.{any_of, key_form, never};
-    ghost use Rattle.cbor_de.specs.Structs.{IsStruct, field_or};
+    ghost use Rattle.cbor_de.specs.Structs.{IsKeyed, IsMapOf, field_or};
 
-    ghost reads = { λ names c r x. IsStruct {S = A × B × C × D × (E × Unit {0})} names
+    ghost reads = { λ keys c r x. IsMapOf {S = A × B × C × D × (E × Unit {0})} (IsKeyed keys)
         (field_or (A.reads c) A.missing (λ p. p.0)
         ∷ field_or (B.reads c) B.missing (λ p. p.1)
         ∷ field_or (C.reads c) C.missing (λ p. p.2)
@@ -35,8 +36,8 @@ impl<
 where
     (E, ()): ReadFields<'de, R, Slots = (Option<E>, ())>,
 {
-    fn read_parts(de: &mut Deserializer<R>, names: &[&str]) -> Result<(A, B, C, D, E)> {
-        match read_fields::<R, (A, B, C, D, (E, ()))>(de, names) {
+    fn read_parts(de: &mut Deserializer<R>, keys: &FieldKeys<'_>) -> Result<(A, B, C, D, E)> {
+        match read_fields::<R, (A, B, C, D, (E, ()))>(de, keys) {
             Ok(parts) => {
                 let (a, b, c, d, (e, ())) = parts;
                 Ok((a, b, c, d, e))
@@ -56,9 +57,9 @@ impl<
 > ReadableParts for (A, B, C, D, E, F) {
     ghost use Rattle.std.specs.Prelude.{[], ◌∷◌};
     ghost use Rattle.cbor_de.specs.Forms.{any_of, key_form, never};
-    ghost use Rattle.cbor_de.specs.Structs.{IsStruct, field_or};
+    ghost use Rattle.cbor_de.specs.Structs.{IsKeyed, IsMapOf, field_or};
 
-    ghost reads = { λ names c r x. IsStruct {S = A × B × C × D × (E × (F × Unit {0}))} names
+    ghost reads = { λ keys c r x. IsMapOf {S = A × B × C × D × (E × (F × Unit {0}))} (IsKeyed keys)
         (field_or (A.reads c) A.missing (λ p. p.0)
         ∷ field_or (B.reads c) B.missing (λ p. p.1)
         ∷ field_or (C.reads c) C.missing (λ p. p.2)
@@ -85,8 +86,8 @@ impl<
 where
     (E, (F, ())): ReadFields<'de, R, Slots = (Option<E>, (Option<F>, ()))>,
 {
-    fn read_parts(de: &mut Deserializer<R>, names: &[&str]) -> Result<(A, B, C, D, E, F)> {
-        match read_fields::<R, (A, B, C, D, (E, (F, ())))>(de, names) {
+    fn read_parts(de: &mut Deserializer<R>, keys: &FieldKeys<'_>) -> Result<(A, B, C, D, E, F)> {
+        match read_fields::<R, (A, B, C, D, (E, (F, ())))>(de, keys) {
             Ok(parts) => {
                 let (a, b, c, d, (e, (f, ()))) = parts;
                 Ok((a, b, c, d, e, f))
@@ -107,9 +108,9 @@ impl<
 > ReadableParts for (A, B, C, D, E, F, G) {
     ghost use Rattle.std.specs.Prelude.{[], ◌∷◌};
     ghost use Rattle.cbor_de.specs.Forms.{any_of, key_form, never};
-    ghost use Rattle.cbor_de.specs.Structs.{IsStruct, field_or};
+    ghost use Rattle.cbor_de.specs.Structs.{IsKeyed, IsMapOf, field_or};
 
-    ghost reads = { λ names c r x. IsStruct {S = A × B × C × D × (E × (F × (G × Unit {0})))} names
+    ghost reads = { λ keys c r x. IsMapOf {S = A × B × C × D × (E × (F × (G × Unit {0})))} (IsKeyed keys)
         (field_or (A.reads c) A.missing (λ p. p.0)
         ∷ field_or (B.reads c) B.missing (λ p. p.1)
         ∷ field_or (C.reads c) C.missing (λ p. p.2)
@@ -139,8 +140,8 @@ impl<
 where
     (E, (F, (G, ()))): ReadFields<'de, R, Slots = (Option<E>, (Option<F>, (Option<G>, ())))>,
 {
-    fn read_parts(de: &mut Deserializer<R>, names: &[&str]) -> Result<(A, B, C, D, E, F, G)> {
-        match read_fields::<R, (A, B, C, D, (E, (F, (G, ()))))>(de, names) {
+    fn read_parts(de: &mut Deserializer<R>, keys: &FieldKeys<'_>) -> Result<(A, B, C, D, E, F, G)> {
+        match read_fields::<R, (A, B, C, D, (E, (F, (G, ()))))>(de, keys) {
             Ok(parts) => {
                 let (a, b, c, d, (e, (f, (g, ())))) = parts;
                 Ok((a, b, c, d, e, f, g))
@@ -162,9 +163,9 @@ impl<
 > ReadableParts for (A, B, C, D, E, F, G, H) {
     ghost use Rattle.std.specs.Prelude.{[], ◌∷◌};
     ghost use Rattle.cbor_de.specs.Forms.{any_of, key_form, never};
-    ghost use Rattle.cbor_de.specs.Structs.{IsStruct, field_or};
+    ghost use Rattle.cbor_de.specs.Structs.{IsKeyed, IsMapOf, field_or};
 
-    ghost reads = { λ names c r x. IsStruct {S = A × B × C × D × (E × F × G × H × Unit {0})} names
+    ghost reads = { λ keys c r x. IsMapOf {S = A × B × C × D × (E × F × G × H × Unit {0})} (IsKeyed keys)
         (field_or (A.reads c) A.missing (λ p. p.0)
         ∷ field_or (B.reads c) B.missing (λ p. p.1)
         ∷ field_or (C.reads c) C.missing (λ p. p.2)
@@ -196,8 +197,11 @@ impl<
 where
     (E, F, G, H, ()): ReadFields<'de, R, Slots = (Option<E>, Option<F>, Option<G>, Option<H>, ())>,
 {
-    fn read_parts(de: &mut Deserializer<R>, names: &[&str]) -> Result<(A, B, C, D, E, F, G, H)> {
-        match read_fields::<R, (A, B, C, D, (E, F, G, H, ()))>(de, names) {
+    fn read_parts(
+        de: &mut Deserializer<R>,
+        keys: &FieldKeys<'_>,
+    ) -> Result<(A, B, C, D, E, F, G, H)> {
+        match read_fields::<R, (A, B, C, D, (E, F, G, H, ()))>(de, keys) {
             Ok(parts) => {
                 let (a, b, c, d, (e, f, g, h, ())) = parts;
                 Ok((a, b, c, d, e, f, g, h))

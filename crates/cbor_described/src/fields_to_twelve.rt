@@ -4,6 +4,7 @@ use crate::field_list::{ReadField, ReadFields, read_fields};
 use crate::parts::{ReadParts, ReadableParts};
 use cbor_de::{Deserializer, FieldType, Read};
 use cbor_io::error::Result;
+use cbor_parts::FieldKeys;
 
 impl<
     A: FieldType,
@@ -18,10 +19,10 @@ impl<
 > ReadableParts for (A, B, C, D, E, F, G, H, I) {
     ghost use Rattle.std.specs.Prelude.{[], ◌∷◌};
     ghost use Rattle.cbor_de.specs.Forms.{any_of, key_form, never};
-    ghost use Rattle.cbor_de.specs.Structs.{IsStruct, field_or};
+    ghost use Rattle.cbor_de.specs.Structs.{IsKeyed, IsMapOf, field_or};
 
-    ghost reads = { λ names c r x. IsStruct
-        {S = A × B × C × D × (E × F × G × H × (I × Unit {0}))} names
+    ghost reads = { λ keys c r x. IsMapOf
+        {S = A × B × C × D × (E × F × G × H × (I × Unit {0}))} (IsKeyed keys)
         (field_or (A.reads c) A.missing (λ p. p.0)
         ∷ field_or (B.reads c) B.missing (λ p. p.1)
         ∷ field_or (C.reads c) C.missing (λ p. p.2)
@@ -59,8 +60,11 @@ where
         Slots = (Option<E>, Option<F>, Option<G>, Option<H>, (Option<I>, ())),
     >,
 {
-    fn read_parts(de: &mut Deserializer<R>, names: &[&str]) -> Result<(A, B, C, D, E, F, G, H, I)> {
-        match read_fields::<R, (A, B, C, D, (E, F, G, H, (I, ())))>(de, names) {
+    fn read_parts(
+        de: &mut Deserializer<R>,
+        keys: &FieldKeys<'_>,
+    ) -> Result<(A, B, C, D, E, F, G, H, I)> {
+        match read_fields::<R, (A, B, C, D, (E, F, G, H, (I, ())))>(de, keys) {
             Ok(parts) => {
                 let (a, b, c, d, (e, f, g, h, (i, ()))) = parts;
                 Ok((a, b, c, d, e, f, g, h, i))
@@ -84,10 +88,10 @@ impl<
 > ReadableParts for (A, B, C, D, E, F, G, H, I, J) {
     ghost use Rattle.std.specs.Prelude.{[], ◌∷◌};
     ghost use Rattle.cbor_de.specs.Forms.{any_of, key_form, never};
-    ghost use Rattle.cbor_de.specs.Structs.{IsStruct, field_or};
+    ghost use Rattle.cbor_de.specs.Structs.{IsKeyed, IsMapOf, field_or};
 
-    ghost reads = { λ names c r x. IsStruct
-        {S = A × B × C × D × (E × F × G × H × (I × (J × Unit {0})))} names
+    ghost reads = { λ keys c r x. IsMapOf
+        {S = A × B × C × D × (E × F × G × H × (I × (J × Unit {0})))} (IsKeyed keys)
         (field_or (A.reads c) A.missing (λ p. p.0)
         ∷ field_or (B.reads c) B.missing (λ p. p.1)
         ∷ field_or (C.reads c) C.missing (λ p. p.2)
@@ -136,9 +140,9 @@ where
 {
     fn read_parts(
         de: &mut Deserializer<R>,
-        names: &[&str],
+        keys: &FieldKeys<'_>,
     ) -> Result<(A, B, C, D, E, F, G, H, I, J)> {
-        match read_fields::<R, (A, B, C, D, (E, F, G, H, (I, (J, ()))))>(de, names) {
+        match read_fields::<R, (A, B, C, D, (E, F, G, H, (I, (J, ()))))>(de, keys) {
             Ok(parts) => {
                 let (a, b, c, d, (e, f, g, h, (i, (j, ())))) = parts;
                 Ok((a, b, c, d, e, f, g, h, i, j))
@@ -163,10 +167,10 @@ impl<
 > ReadableParts for (A, B, C, D, E, F, G, H, I, J, K) {
     ghost use Rattle.std.specs.Prelude.{[], ◌∷◌};
     ghost use Rattle.cbor_de.specs.Forms.{any_of, key_form, never};
-    ghost use Rattle.cbor_de.specs.Structs.{IsStruct, field_or};
+    ghost use Rattle.cbor_de.specs.Structs.{IsKeyed, IsMapOf, field_or};
 
-    ghost reads = { λ names c r x. IsStruct
-        {S = A × B × C × D × (E × F × G × H × (I × (J × (K × Unit {0}))))} names
+    ghost reads = { λ keys c r x. IsMapOf
+        {S = A × B × C × D × (E × F × G × H × (I × (J × (K × Unit {0}))))} (IsKeyed keys)
         (field_or (A.reads c) A.missing (λ p. p.0)
         ∷ field_or (B.reads c) B.missing (λ p. p.1)
         ∷ field_or (C.reads c) C.missing (λ p. p.2)
@@ -218,9 +222,9 @@ where
 {
     fn read_parts(
         de: &mut Deserializer<R>,
-        names: &[&str],
+        keys: &FieldKeys<'_>,
     ) -> Result<(A, B, C, D, E, F, G, H, I, J, K)> {
-        match read_fields::<R, (A, B, C, D, (E, F, G, H, (I, (J, (K, ())))))>(de, names) {
+        match read_fields::<R, (A, B, C, D, (E, F, G, H, (I, (J, (K, ())))))>(de, keys) {
             Ok(parts) => {
                 let (a, b, c, d, (e, f, g, h, (i, (j, (k, ()))))) = parts;
                 Ok((a, b, c, d, e, f, g, h, i, j, k))
@@ -246,10 +250,10 @@ impl<
 > ReadableParts for (A, B, C, D, E, F, G, H, I, J, K, L) {
     ghost use Rattle.std.specs.Prelude.{[], ◌∷◌};
     ghost use Rattle.cbor_de.specs.Forms.{any_of, key_form, never};
-    ghost use Rattle.cbor_de.specs.Structs.{IsStruct, field_or};
+    ghost use Rattle.cbor_de.specs.Structs.{IsKeyed, IsMapOf, field_or};
 
-    ghost reads = { λ names c r x. IsStruct
-        {S = A × B × C × D × (E × F × G × H × (I × J × K × L × Unit {0}))} names
+    ghost reads = { λ keys c r x. IsMapOf
+        {S = A × B × C × D × (E × F × G × H × (I × J × K × L × Unit {0}))} (IsKeyed keys)
         (field_or (A.reads c) A.missing (λ p. p.0)
         ∷ field_or (B.reads c) B.missing (λ p. p.1)
         ∷ field_or (C.reads c) C.missing (λ p. p.2)
@@ -303,9 +307,9 @@ where
 {
     fn read_parts(
         de: &mut Deserializer<R>,
-        names: &[&str],
+        keys: &FieldKeys<'_>,
     ) -> Result<(A, B, C, D, E, F, G, H, I, J, K, L)> {
-        match read_fields::<R, (A, B, C, D, (E, F, G, H, (I, J, K, L, ())))>(de, names) {
+        match read_fields::<R, (A, B, C, D, (E, F, G, H, (I, J, K, L, ())))>(de, keys) {
             Ok(parts) => {
                 let (a, b, c, d, (e, f, g, h, (i, j, k, l, ()))) = parts;
                 Ok((a, b, c, d, e, f, g, h, i, j, k, l))

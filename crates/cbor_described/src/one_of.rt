@@ -8,7 +8,7 @@ use crate::parts::{ReadParts, ReadableParts};
 use crate::variant_list::{Never, OneOf, ReadVariant, Variant, read_variants};
 use cbor_de::{Deserializer, Read};
 use cbor_io::error::Result;
-use cbor_parts::{OneOf1, OneOf2, OneOf3, OneOf4, OneOf5, OneOf6, OneOf7, OneOf8};
+use cbor_parts::{FieldKeys, OneOf1, OneOf2, OneOf3, OneOf4, OneOf5, OneOf6, OneOf7, OneOf8};
 
 impl<A: Variant> ReadableParts for OneOf1<A> {
     ghost use Rattle.cbor_model.specs.Readable.{PassesTags};
@@ -16,15 +16,15 @@ impl<A: Variant> ReadableParts for OneOf1<A> {
     ghost use Rattle.cbor_de.specs.Forms.{any_of, enum_form, never};
     ghost use Rattle.cbor_described.specs.OneOfs.{either, no_variant, list1};
 
-    ghost reads = { λ names c r x. PassesTags
-        (IsEnum c.formats names (either (A.means c) no_variant)) r (list1 x) };
+    ghost reads = { λ keys c r x. PassesTags
+        (IsEnum c.formats keys.names (either (A.means c) no_variant)) r (list1 x) };
 
     ghost wrong_forms = { any_of enum_form (any_of A.wrong_forms never) };
 }
 
 impl<'de, R: Read<'de>, A: ReadVariant<'de, R>> ReadParts<'de, R> for OneOf1<A> {
-    fn read_parts(de: &mut Deserializer<R>, names: &[&str]) -> Result<OneOf1<A>> {
-        match read_variants::<R, OneOf<A, Never>>(de, names) {
+    fn read_parts(de: &mut Deserializer<R>, keys: &FieldKeys<'_>) -> Result<OneOf1<A>> {
+        match read_variants::<R, OneOf<A, Never>>(de, keys.names) {
             Ok(parts) => Ok(one_of1(parts)),
             Err(e) => Err(e),
         }
@@ -46,16 +46,16 @@ impl<A: Variant, B: Variant> ReadableParts for OneOf2<A, B> {
     ghost use Rattle.cbor_de.specs.Forms.{any_of, enum_form, never};
     ghost use Rattle.cbor_described.specs.OneOfs.{either, no_variant, list2};
 
-    ghost reads = { λ names c r x. PassesTags
-        (IsEnum c.formats names (either (A.means c) (either (B.means c) no_variant))) r (list2 x) };
+    ghost reads = { λ keys c r x. PassesTags
+        (IsEnum c.formats keys.names (either (A.means c) (either (B.means c) no_variant))) r (list2 x) };
 
     ghost wrong_forms = { any_of enum_form (any_of A.wrong_forms (any_of B.wrong_forms never)) };
 }
 
 impl<'de, R: Read<'de>, A: ReadVariant<'de, R>, B: ReadVariant<'de, R>> ReadParts<'de, R>
     for OneOf2<A, B> {
-    fn read_parts(de: &mut Deserializer<R>, names: &[&str]) -> Result<OneOf2<A, B>> {
-        match read_variants::<R, OneOf<A, OneOf<B, Never>>>(de, names) {
+    fn read_parts(de: &mut Deserializer<R>, keys: &FieldKeys<'_>) -> Result<OneOf2<A, B>> {
+        match read_variants::<R, OneOf<A, OneOf<B, Never>>>(de, keys.names) {
             Ok(parts) => Ok(one_of2(parts)),
             Err(e) => Err(e),
         }
@@ -78,8 +78,8 @@ impl<A: Variant, B: Variant, C: Variant> ReadableParts for OneOf3<A, B, C> {
     ghost use Rattle.cbor_de.specs.Forms.{any_of, enum_form, never};
     ghost use Rattle.cbor_described.specs.OneOfs.{either, no_variant, list3};
 
-    ghost reads = { λ names c r x. PassesTags
-        (IsEnum c.formats names (either (A.means c)
+    ghost reads = { λ keys c r x. PassesTags
+        (IsEnum c.formats keys.names (either (A.means c)
         (either (B.means c)
         (either (C.means c) no_variant))))
         r (list3 x) };
@@ -95,8 +95,8 @@ impl<
     B: ReadVariant<'de, R>,
     C: ReadVariant<'de, R>,
 > ReadParts<'de, R> for OneOf3<A, B, C> {
-    fn read_parts(de: &mut Deserializer<R>, names: &[&str]) -> Result<OneOf3<A, B, C>> {
-        match read_variants::<R, OneOf<A, OneOf<B, OneOf<C, Never>>>>(de, names) {
+    fn read_parts(de: &mut Deserializer<R>, keys: &FieldKeys<'_>) -> Result<OneOf3<A, B, C>> {
+        match read_variants::<R, OneOf<A, OneOf<B, OneOf<C, Never>>>>(de, keys.names) {
             Ok(parts) => Ok(one_of3(parts)),
             Err(e) => Err(e),
         }
@@ -120,8 +120,8 @@ impl<A: Variant, B: Variant, C: Variant, D: Variant> ReadableParts for OneOf4<A,
     ghost use Rattle.cbor_de.specs.Forms.{any_of, enum_form, never};
     ghost use Rattle.cbor_described.specs.OneOfs.{either, no_variant, list4};
 
-    ghost reads = { λ names c r x. PassesTags
-        (IsEnum c.formats names (either (A.means c)
+    ghost reads = { λ keys c r x. PassesTags
+        (IsEnum c.formats keys.names (either (A.means c)
         (either (B.means c)
         (either (C.means c)
         (either (D.means c) no_variant)))))
@@ -140,8 +140,8 @@ impl<
     C: ReadVariant<'de, R>,
     D: ReadVariant<'de, R>,
 > ReadParts<'de, R> for OneOf4<A, B, C, D> {
-    fn read_parts(de: &mut Deserializer<R>, names: &[&str]) -> Result<OneOf4<A, B, C, D>> {
-        match read_variants::<R, OneOf<A, OneOf<B, OneOf<C, OneOf<D, Never>>>>>(de, names) {
+    fn read_parts(de: &mut Deserializer<R>, keys: &FieldKeys<'_>) -> Result<OneOf4<A, B, C, D>> {
+        match read_variants::<R, OneOf<A, OneOf<B, OneOf<C, OneOf<D, Never>>>>>(de, keys.names) {
             Ok(parts) => Ok(one_of4(parts)),
             Err(e) => Err(e),
         }
@@ -169,8 +169,8 @@ impl<A: Variant, B: Variant, C: Variant, D: Variant, E: Variant> ReadableParts
     ghost use Rattle.cbor_de.specs.Forms.{any_of, enum_form, never};
     ghost use Rattle.cbor_described.specs.OneOfs.{either, no_variant, list5};
 
-    ghost reads = { λ names c r x. PassesTags
-        (IsEnum c.formats names (either (A.means c)
+    ghost reads = { λ keys c r x. PassesTags
+        (IsEnum c.formats keys.names (either (A.means c)
         (either (B.means c)
         (either (C.means c)
         (either (D.means c)
@@ -191,9 +191,9 @@ impl<
     D: ReadVariant<'de, R>,
     E: ReadVariant<'de, R>,
 > ReadParts<'de, R> for OneOf5<A, B, C, D, E> {
-    fn read_parts(de: &mut Deserializer<R>, names: &[&str]) -> Result<OneOf5<A, B, C, D, E>> {
+    fn read_parts(de: &mut Deserializer<R>, keys: &FieldKeys<'_>) -> Result<OneOf5<A, B, C, D, E>> {
         match read_variants::<R, OneOf<A, OneOf<B, OneOf<C, OneOf<D, OneOf<E, Never>>>>>>(
-            de, names,
+            de, keys.names,
         ) {
             Ok(parts) => Ok(one_of5(parts)),
             Err(e) => Err(e),
@@ -223,8 +223,8 @@ impl<A: Variant, B: Variant, C: Variant, D: Variant, E: Variant, F: Variant> Rea
     ghost use Rattle.cbor_de.specs.Forms.{any_of, enum_form, never};
     ghost use Rattle.cbor_described.specs.OneOfs.{either, no_variant, list6};
 
-    ghost reads = { λ names c r x. PassesTags
-        (IsEnum c.formats names (either (A.means c)
+    ghost reads = { λ keys c r x. PassesTags
+        (IsEnum c.formats keys.names (either (A.means c)
         (either (B.means c)
         (either (C.means c)
         (either (D.means c)
@@ -247,9 +247,12 @@ impl<
     E: ReadVariant<'de, R>,
     F: ReadVariant<'de, R>,
 > ReadParts<'de, R> for OneOf6<A, B, C, D, E, F> {
-    fn read_parts(de: &mut Deserializer<R>, names: &[&str]) -> Result<OneOf6<A, B, C, D, E, F>> {
+    fn read_parts(
+        de: &mut Deserializer<R>,
+        keys: &FieldKeys<'_>,
+    ) -> Result<OneOf6<A, B, C, D, E, F>> {
         match read_variants::<R, OneOf<A, OneOf<B, OneOf<C, OneOf<D, OneOf<E, OneOf<F, Never>>>>>>>(
-            de, names,
+            de, keys.names,
         ) {
             Ok(parts) => Ok(one_of6(parts)),
             Err(e) => Err(e),
@@ -288,8 +291,8 @@ impl<
     ghost use Rattle.cbor_de.specs.Forms.{any_of, enum_form, never};
     ghost use Rattle.cbor_described.specs.OneOfs.{either, no_variant, list7};
 
-    ghost reads = { λ names c r x. PassesTags
-        (IsEnum c.formats names (either (A.means c)
+    ghost reads = { λ keys c r x. PassesTags
+        (IsEnum c.formats keys.names (either (A.means c)
         (either (B.means c)
         (either (C.means c)
         (either (D.means c)
@@ -315,11 +318,14 @@ impl<
     F: ReadVariant<'de, R>,
     G: ReadVariant<'de, R>,
 > ReadParts<'de, R> for OneOf7<A, B, C, D, E, F, G> {
-    fn read_parts(de: &mut Deserializer<R>, names: &[&str]) -> Result<OneOf7<A, B, C, D, E, F, G>> {
+    fn read_parts(
+        de: &mut Deserializer<R>,
+        keys: &FieldKeys<'_>,
+    ) -> Result<OneOf7<A, B, C, D, E, F, G>> {
         match read_variants::<
             R,
             OneOf<A, OneOf<B, OneOf<C, OneOf<D, OneOf<E, OneOf<F, OneOf<G, Never>>>>>>>,
-        >(de, names)
+        >(de, keys.names)
         {
             Ok(parts) => Ok(one_of7(parts)),
             Err(e) => Err(e),
@@ -362,8 +368,8 @@ impl<
     ghost use Rattle.cbor_de.specs.Forms.{any_of, enum_form, never};
     ghost use Rattle.cbor_described.specs.OneOfs.{either, no_variant, list8};
 
-    ghost reads = { λ names c r x. PassesTags
-        (IsEnum c.formats names (either (A.means c)
+    ghost reads = { λ keys c r x. PassesTags
+        (IsEnum c.formats keys.names (either (A.means c)
         (either (B.means c)
         (either (C.means c)
         (either (D.means c)
@@ -393,12 +399,12 @@ impl<
 > ReadParts<'de, R> for OneOf8<A, B, C, D, E, F, G, H> {
     fn read_parts(
         de: &mut Deserializer<R>,
-        names: &[&str],
+        keys: &FieldKeys<'_>,
     ) -> Result<OneOf8<A, B, C, D, E, F, G, H>> {
         match read_variants::<
             R,
             OneOf<A, OneOf<B, OneOf<C, OneOf<D, OneOf<E, OneOf<F, OneOf<G, OneOf<H, Never>>>>>>>>,
-        >(de, names)
+        >(de, keys.names)
         {
             Ok(parts) => Ok(one_of8(parts)),
             Err(e) => Err(e),

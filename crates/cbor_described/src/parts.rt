@@ -1,25 +1,25 @@
 //! Structs and enums that are read by a description of their parts.
 
-ghost use Rattle.std.specs.Prelude.{◌≡◌, IfErr, OnOk, length};
+ghost use Rattle.std.specs.Prelude.{◌≡◌, IfErr, OnOk};
 ghost use Rattle.cbor_decode.specs.Decoder.{SameSettings};
-ghost use Rattle.cbor_decode_as.specs.Identifiers.{texts};
+ghost use Rattle.cbor_parts.specs.Keys.{AreKeysOf, named_keys, keys_of};
 ghost use Rattle.cbor_decode_as.specs.Takes.{context};
 ghost use Rattle.cbor_de.specs.Calls as call;
 
 use cbor_de::{Deserialize, Deserializer, Read, Readable};
 use cbor_io::error::Result;
-use cbor_parts::{AtMostTwelveParts, Newtype, Schema};
+use cbor_parts::{AtMostTwelveParts, FieldKeys, FieldLabels, Labelled, Newtype, Schema};
 
 /// The parts of a struct, a tuple of its fields or a [`Newtype`] of its one part, or of an enum,
 /// one of its variants.
 pub trait ReadableParts: AtMostTwelveParts {
-    ghost use Rattle.std.specs.Prelude.{List, ℕ};
+    ghost use Rattle.cbor_parts.specs.Keys.{Keys};
     ghost use Rattle.cbor_model.specs.Raw.{Raw};
     ghost use Rattle.cbor_model.specs.Readable.{Context};
     ghost use Rattle.cbor_de.specs.Forms.{WrongForms};
 
-    // As what an item is read, by the names of the fields or the variants.
-    ghost reads: { List (List ℕ) → Context → Raw → Self → Type 0 };
+    // As what an item is read, by the names of the fields or the variants, or the fields' labels.
+    ghost reads: { Keys → Context → Raw → Self → Type 0 };
 
     // By which codes an item may be refused for its form, and where.
     ghost wrong_forms: { WrongForms };
@@ -27,11 +27,12 @@ pub trait ReadableParts: AtMostTwelveParts {
 
 /// The parts of a struct or an enum, which are read from a source.
 pub trait ReadParts<'de, R: Read<'de>>: ReadableParts {
-    /// Reads the item at the front, by the names of the fields or the variants.
-    fn read_parts(de: &mut Deserializer<R>, names: &[&str]) -> Result<Self>
-        requires { length names.now ≡ Self.count }
+    /// Reads the item at the front, by the names of the fields or the variants, or by the fields'
+    /// labels.
+    fn read_parts(de: &mut Deserializer<R>, keys: &FieldKeys<'_>) -> Result<Self>
+        requires { AreKeysOf Self.count (keys_of keys.now) }
         ensures read { call.TakesItem R.source R.refusals
-            (Self.reads (texts names.now) (context de.old.decoder.formats R.lends))
+            (Self.reads (keys_of keys.now) (context de.old.decoder.formats R.lends))
             de.old de.new result }
         ensures taken { OnOk result (call.Advances R.source de.old de.new) }
         ensures form { IfErr result (call.MayReport R.source Self.wrong_forms de.old) }
@@ -40,16 +41,45 @@ pub trait ReadParts<'de, R: Read<'de>>: ReadableParts {
 
 /// A struct is read as its one part.
 impl<T: Readable> ReadableParts for Newtype<T> {
-    ghost reads = { λ names c r p. T.reads c r p.0 };
+    ghost reads = { λ keys c r p. T.reads c r p.0 };
 
     ghost wrong_forms = { T.wrong_forms };
 }
 
 impl<'de, R: Read<'de>, T: Deserialize<'de, R>> ReadParts<'de, R> for Newtype<T> {
-    fn read_parts(de: &mut Deserializer<R>, names: &[&str]) -> Result<Newtype<T>> {
-        let _ = names;
+    fn read_parts(de: &mut Deserializer<R>, keys: &FieldKeys<'_>) -> Result<Newtype<T>> {
+        let _ = keys;
         match T::deserialize(de) {
             Ok(part) => Ok(Newtype(part)),
+            Err(e) => Err(e),
+        }
+    }
+}
+
+/// The keys of the pairs are labels of the fields; a label that no field has is passed over, with its
+/// value, as a key that is a text or a byte string is.
+impl<L: FieldLabels> ReadableParts for Labelled<L>
+where
+    L::Parts: ReadableParts,
+{
+    ghost use Rattle.cbor_parts.specs.Keys.{labelled_keys};
+
+    ghost reads = { λ keys c r p. L.Parts.reads (labelled_keys keys.names L.labels) c r p.0 };
+
+    ghost wrong_forms = { L.Parts.wrong_forms };
+}
+
+impl<'de, R: Read<'de>, L: FieldLabels> ReadParts<'de, R> for Labelled<L>
+where
+    L::Parts: ReadParts<'de, R>,
+{
+    fn read_parts(de: &mut Deserializer<R>, keys: &FieldKeys<'_>) -> Result<Labelled<L>> {
+        let labels = FieldKeys {
+            names: keys.names,
+            labels: Some(L::labels()),
+        };
+        match <L::Parts as ReadParts<'de, R>>::read_parts(de, &labels) {
+            Ok(parts) => Ok(Labelled(parts)),
             Err(e) => Err(e),
         }
     }
@@ -77,7 +107,7 @@ pub trait ReadBy<P>: Sized {
 }
 
 impl<P: ReadableParts, T: Schema<Parts = P>> ReadBy<P> for T {
-    ghost reads = { λ c r x. P.reads T.names c r (T.parts x) };
+    ghost reads = { λ c r x. P.reads (named_keys T.names) c r (T.parts x) };
 
     ghost wrong_forms = { P.wrong_forms };
 }
@@ -95,13 +125,18 @@ pub fn read_described<'de, R: Read<'de>, T: Schema>(de: &mut Deserializer<R>) ->
 where
     T::Parts: ReadParts<'de, R>,
     ensures read { call.TakesItem R.source R.refusals
-        (λ r x. T.Parts.reads T.names (context de.old.decoder.formats R.lends) r (T.parts x))
+        (λ r x. T.Parts.reads (named_keys T.names) (context de.old.decoder.formats R.lends) r
+        (T.parts x))
         de.old de.new result }
     ensures taken { OnOk result (call.Advances R.source de.old de.new) }
     ensures form { IfErr result (call.MayReport R.source T.Parts.wrong_forms de.old) }
     ensures settings { SameSettings de.old.decoder de.new.decoder }
 {
-    match <T::Parts as ReadParts<'de, R>>::read_parts(de, T::names()) {
+    let keys = FieldKeys {
+        names: T::names(),
+        labels: None,
+    };
+    match <T::Parts as ReadParts<'de, R>>::read_parts(de, &keys) {
         Ok(parts) => Ok(T::from_parts(parts)),
         Err(e) => Err(e),
     }

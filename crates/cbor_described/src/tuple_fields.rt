@@ -10,13 +10,14 @@ use crate::field_list::read_fields;
 use crate::parts::{ReadParts, ReadableParts};
 use cbor_de::{Deserialize, Deserializer, FieldType, Read};
 use cbor_io::error::Result;
+use cbor_parts::FieldKeys;
 
 impl<A: FieldType> ReadableParts for (A,) {
     ghost use Rattle.std.specs.Prelude.{[], ◌∷◌};
     ghost use Rattle.cbor_de.specs.Forms.{any_of, key_form, never};
-    ghost use Rattle.cbor_de.specs.Structs.{IsStruct, field_or};
+    ghost use Rattle.cbor_de.specs.Structs.{IsKeyed, IsMapOf, field_or};
 
-    ghost reads = { λ names c r x. IsStruct {S = A × Unit {0}} names
+    ghost reads = { λ keys c r x. IsMapOf {S = A × Unit {0}} (IsKeyed keys)
         (field_or (A.reads c) A.missing (λ p. p.0) ∷ [])
         r (x.0, tt) };
 
@@ -27,8 +28,8 @@ impl<'de, R: Read<'de>, A: FieldType> ReadParts<'de, R> for (A,)
 where
     A::Of: Deserialize<'de, R>,
 {
-    fn read_parts(de: &mut Deserializer<R>, names: &[&str]) -> Result<(A,)> {
-        match read_fields::<R, (A, ())>(de, names) {
+    fn read_parts(de: &mut Deserializer<R>, keys: &FieldKeys<'_>) -> Result<(A,)> {
+        match read_fields::<R, (A, ())>(de, keys) {
             Ok(parts) => {
                 let (a, ()) = parts;
                 Ok((a,))
@@ -41,9 +42,9 @@ where
 impl<A: FieldType, B: FieldType> ReadableParts for (A, B) {
     ghost use Rattle.std.specs.Prelude.{[], ◌∷◌};
     ghost use Rattle.cbor_de.specs.Forms.{any_of, key_form, never};
-    ghost use Rattle.cbor_de.specs.Structs.{IsStruct, field_or};
+    ghost use Rattle.cbor_de.specs.Structs.{IsKeyed, IsMapOf, field_or};
 
-    ghost reads = { λ names c r x. IsStruct {S = A × (B × Unit {0})} names
+    ghost reads = { λ keys c r x. IsMapOf {S = A × (B × Unit {0})} (IsKeyed keys)
         (field_or (A.reads c) A.missing (λ p. p.0)
         ∷ field_or (B.reads c) B.missing (λ p. p.1.0) ∷ [])
         r (x.0, (x.1, tt)) };
@@ -57,8 +58,8 @@ where
     A::Of: Deserialize<'de, R>,
     B::Of: Deserialize<'de, R>,
 {
-    fn read_parts(de: &mut Deserializer<R>, names: &[&str]) -> Result<(A, B)> {
-        match read_fields::<R, (A, (B, ()))>(de, names) {
+    fn read_parts(de: &mut Deserializer<R>, keys: &FieldKeys<'_>) -> Result<(A, B)> {
+        match read_fields::<R, (A, (B, ()))>(de, keys) {
             Ok(parts) => {
                 let (a, (b, ())) = parts;
                 Ok((a, b))
@@ -71,9 +72,9 @@ where
 impl<A: FieldType, B: FieldType, C: FieldType> ReadableParts for (A, B, C) {
     ghost use Rattle.std.specs.Prelude.{[], ◌∷◌};
     ghost use Rattle.cbor_de.specs.Forms.{any_of, key_form, never};
-    ghost use Rattle.cbor_de.specs.Structs.{IsStruct, field_or};
+    ghost use Rattle.cbor_de.specs.Structs.{IsKeyed, IsMapOf, field_or};
 
-    ghost reads = { λ names c r x. IsStruct {S = A × (B × (C × Unit {0}))} names
+    ghost reads = { λ keys c r x. IsMapOf {S = A × (B × (C × Unit {0}))} (IsKeyed keys)
         (field_or (A.reads c) A.missing (λ p. p.0)
         ∷ field_or (B.reads c) B.missing (λ p. p.1.0)
         ∷ field_or (C.reads c) C.missing (λ p. p.1.1.0) ∷ [])
@@ -89,8 +90,8 @@ where
     B::Of: Deserialize<'de, R>,
     C::Of: Deserialize<'de, R>,
 {
-    fn read_parts(de: &mut Deserializer<R>, names: &[&str]) -> Result<(A, B, C)> {
-        match read_fields::<R, (A, (B, (C, ())))>(de, names) {
+    fn read_parts(de: &mut Deserializer<R>, keys: &FieldKeys<'_>) -> Result<(A, B, C)> {
+        match read_fields::<R, (A, (B, (C, ())))>(de, keys) {
             Ok(parts) => {
                 let (a, (b, (c, ()))) = parts;
                 Ok((a, b, c))
@@ -103,9 +104,9 @@ where
 impl<A: FieldType, B: FieldType, C: FieldType, D: FieldType> ReadableParts for (A, B, C, D) {
     ghost use Rattle.std.specs.Prelude.{[], ◌∷◌};
     ghost use Rattle.cbor_de.specs.Forms.{any_of, key_form, never};
-    ghost use Rattle.cbor_de.specs.Structs.{IsStruct, field_or};
+    ghost use Rattle.cbor_de.specs.Structs.{IsKeyed, IsMapOf, field_or};
 
-    ghost reads = { λ names c r x. IsStruct {S = A × B × C × D × Unit {0}} names
+    ghost reads = { λ keys c r x. IsMapOf {S = A × B × C × D × Unit {0}} (IsKeyed keys)
         (field_or (A.reads c) A.missing (λ p. p.0)
         ∷ field_or (B.reads c) B.missing (λ p. p.1)
         ∷ field_or (C.reads c) C.missing (λ p. p.2)
@@ -124,8 +125,8 @@ where
     C::Of: Deserialize<'de, R>,
     D::Of: Deserialize<'de, R>,
 {
-    fn read_parts(de: &mut Deserializer<R>, names: &[&str]) -> Result<(A, B, C, D)> {
-        match read_fields::<R, (A, B, C, D, ())>(de, names) {
+    fn read_parts(de: &mut Deserializer<R>, keys: &FieldKeys<'_>) -> Result<(A, B, C, D)> {
+        match read_fields::<R, (A, B, C, D, ())>(de, keys) {
             Ok(parts) => {
                 let (a, b, c, d, ()) = parts;
                 Ok((a, b, c, d))

@@ -7,6 +7,7 @@ ghost use Rattle.cbor_decode_as.specs.Identifiers.{texts};
 ghost use Rattle.cbor_decode_as.specs.Takes.{context, formats_of};
 ghost use Rattle.cbor_decode_as.specs.Variants.{TakesContent};
 ghost use Rattle.cbor_model.specs.Readable.{PassesTags};
+ghost use Rattle.cbor_parts.specs.Keys.{AreKeysOf, named_keys, keys_of};
 ghost use Rattle.cbor_de.specs.Forms.{MayReportContent, any_of, enum_form};
 ghost use Rattle.cbor_de.specs.Calls as call;
 
@@ -16,7 +17,7 @@ use cbor_de::{
     Deserialize, Deserializer, Form, Read, ReadTuple, Readable, ReadableTuple, Source, one_part,
 };
 use cbor_io::error::{Error, Result};
-use cbor_parts::{FieldNames, Newtype, Struct, Tuple};
+use cbor_parts::{FieldKeys, FieldNames, Newtype, Struct, Tuple};
 
 // ---- a variant
 
@@ -160,7 +161,7 @@ impl<N: FieldNames> Readable for NamedParts<N>
 where
     N::Parts: ReadableParts,
 {
-    ghost reads = { λ c r y. N.Parts.reads N.names c r y.0 };
+    ghost reads = { λ c r y. N.Parts.reads (named_keys N.names) c r y.0 };
 
     ghost wrong_forms = { N.Parts.wrong_forms };
 }
@@ -170,7 +171,11 @@ where
     N::Parts: ReadParts<'de, R>,
 {
     fn deserialize(de: &mut Deserializer<R>) -> Result<NamedParts<N>> {
-        match <N::Parts as ReadParts<'de, R>>::read_parts(de, N::names()) {
+        let keys = FieldKeys {
+            names: N::names(),
+            labels: None,
+        };
+        match <N::Parts as ReadParts<'de, R>>::read_parts(de, &keys) {
             Ok(fields) => Ok(NamedParts(fields)),
             Err(e) => Err(e),
         }
@@ -186,7 +191,7 @@ where
     ghost use Rattle.cbor_decode_as.specs.Variants.{ReportsAlone, alone_text};
     ghost use Rattle.cbor_de.specs.Forms.{any_of, part_form};
 
-    ghost means = { λ c content y. IsPart (N.Parts.reads N.names c) content y.0 };
+    ghost means = { λ c content y. IsPart (N.Parts.reads (named_keys N.names) c) content y.0 };
 
     ghost wrong_forms = { any_of part_form N.Parts.wrong_forms };
 

@@ -1,5 +1,5 @@
 -- What an `Error` is: a code and an offset; and what it prints.
-use Rattle.std.specs.Prelude.{◌≡◌, ⊤, ℕ, zero, suc, List, ◌++◌, codes, Option, Some, None}
+use Rattle.std.specs.Prelude.{◌≡◌, ◌+◌, ◌-◌, ◌^◌, ⊤, ℕ, zero, suc, min, List, ◌++◌, codes, Option, Some, None}
 use Rattle.std.specs.String.{string_bytes}
 use Rattle.cbor_model.specs.Refusal.{words, at_offset, end_in_value, end_in_array, end_in_map}
 use Rattle.cbor_model.specs.Refusal.{length_out_of_range, invalid_utf8, unassigned_code}
@@ -31,6 +31,13 @@ offset_of e = e.offset
 -- an allocation failed
 abbrev pub IsOutOfMemory : Error → Type 0
 IsOutOfMemory e = (e.code ≡ OutOfMemory) × (e.offset ≡ 0)
+
+-- An error is the other where so many bytes precede: further by these where it has a place.
+pub record IsFurther (before : ℕ) (alone further : Error) : Type 0 where
+  pub code : code_of further ≡ code_of alone
+  pub stays : HasNoOffset (code_of alone) → offset_of further ≡ offset_of alone
+  pub offset : ¬ (HasNoOffset (code_of alone))
+      → offset_of further ≡ min (offset_of alone + before) (2 ^ 64 - 1)
 
 abbrev pub category_of : ErrorCode → Category
 category_of (Message s) = category.Data

@@ -98,7 +98,7 @@ pub struct Error {
 }
 
 impl Error {
-    ghost use Rattle.cbor_io.specs.Error.{code_of, offset_of, category_of, IsMessageOf};
+    ghost use Rattle.cbor_io.specs.Error.{code_of, offset_of, category_of, IsFurther, IsMessageOf};
 
     /// The error of this code at this offset.
     ///
@@ -243,6 +243,24 @@ impl Error {
         ensures { IsTrue result ↔ (code_of self.now ≡ OutOfMemory) }
     {
         matches!(&self.code, ErrorCode::OutOfMemory)
+    }
+
+    /// The same error of bytes that so many others precede: its place is so many bytes further, and
+    /// at most 2^64 - 1. One that has no place stays as it is.
+    ///
+    /// ```rust
+    /// assert_eq!(rt; Error::eof(2).further(10).offset(), 12);
+    /// assert_eq!(rt; Error::message(alloc, "no such key").further(10).offset(), 0);
+    /// ```
+    pub fn further(self, before: u64) -> Error
+        ensures { IsFurther before self result }
+    {
+        let Error { code, offset } = self;
+        let offset = match &code {
+            ErrorCode::Message(_) | ErrorCode::Io(_) | ErrorCode::OutOfMemory => offset,
+            _ => offset.saturating_add(before),
+        };
+        Error { code, offset }
     }
 }
 

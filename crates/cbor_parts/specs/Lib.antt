@@ -1,4 +1,5 @@
 pub mod Schemas
+pub mod Keys
 pub mod OneOf1
 pub mod OneOf2
 pub mod OneOf3

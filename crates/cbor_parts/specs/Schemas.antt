@@ -5,6 +5,7 @@ use Rattle.cbor_parts.specs.declared.OrDefault.{OrDefault}
 use Rattle.cbor_parts.specs.declared.Newtype.{Newtype}
 use Rattle.cbor_parts.specs.declared.Tuple.{Tuple}
 use Rattle.cbor_parts.specs.declared.Struct.{Struct}
+use Rattle.cbor_parts.specs.declared.Labelled.{Labelled}
 
 -- the one part of a variant
 abbrev pub newtype : {A : Type 0} → A → Newtype A
@@ -17,6 +18,10 @@ tuple xs = record { 0 = xs }
 -- the named fields of a variant
 abbrev pub structure : {N F : Type 0} → F → Struct N F
 structure xs = record { 0 = xs }
+
+-- the fields of a struct whose keys are labels
+abbrev pub under_labels : {L F : Type 0} → F → Labelled L F
+under_labels xs = record { 0 = xs }
 
 -- a field that may be absent
 abbrev pub optional : {A : Type 0} → Option A → Optional A

@@ -51,6 +51,53 @@ pub trait FieldNames {
         ensures as_many { length result.now ≡ Self.Parts.count };
 }
 
+/// By which keys the fields of a struct are read: by their names or their places, or where labels are
+/// given, one for each field, by these integers. The names stand in errors then.
+#[derive(Clone, Copy)]
+pub struct FieldKeys<'k> {
+    pub names: &'k [&'k str],
+    pub labels: Option<&'k [i64]>,
+}
+
+/// The fields of a struct whose keys are integers, its labels.
+///
+/// ```rust
+/// const KEY: &[i64] = &[1, 3, -1];
+///
+/// impl FieldLabels for KeyLabels {
+///     type Parts = (i64, Optional<i64>, ByteBuf);
+///
+///     ghost labels = { KEY.now };
+///
+///     fn labels() -> &'static [i64] {
+///         KEY
+///     }
+/// }
+/// ```
+pub trait FieldLabels {
+    ghost use Rattle.std.specs.Prelude.{List, ℤ};
+
+    /// The fields, in the order of their labels.
+    type Parts: AtMostTwelveParts;
+
+    ghost labels: { List ℤ };
+
+    /// The labels of the fields.
+    fn labels() -> &'static [i64]
+        ensures labels { result.now ≡ labels }
+        ensures as_many { length result.now ≡ Self.Parts.count };
+}
+
+/// The parts of a struct whose keys are integers, as those of COSE (RFC 9052, section 1.5) and CWT
+/// (RFC 8392, section 4), as `Labelled<KeyLabels>`.
+#[derive(Drop)]
+pub struct Labelled<L: FieldLabels>(pub L::Parts);
+
+/// They are as many as the fields.
+impl<L: FieldLabels> AtMostTwelveParts for Labelled<L> {
+    ghost count = { L.Parts.count };
+}
+
 /// A field that may be absent: None where it is, and what is there else.
 ///
 /// What is there is read as a `T`. So null is refused, unless `T` reads it: of

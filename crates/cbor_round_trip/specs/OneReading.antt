@@ -79,7 +79,7 @@ one_name names r i k h e =
 
 pub one_identifier : (names : List (List ℕ)) (r : Raw) (i k : ℕ) → IsIdentifier names r (Some i) → IsIdentifier names r (Some k) → i ≡ k
 one_identifier names (raw.unsigned w n) i k h e = some_place i k n _ h e
-one_identifier names (raw.negative w n) i k h e = absurd h.1
+one_identifier names (raw.negative w n) i k h e = absurd h
 one_identifier names (raw.bytes c) i k h e = one_name names (raw.bytes c) i k h e
 one_identifier names (raw.text c) i k h e = one_name names (raw.text c) i k h e
 one_identifier names (raw.bytes_chunks cs) i k h e = one_name names (raw.bytes_chunks cs) i k h e
@@ -104,4 +104,5 @@ one_variant f names (raw.bytes c) v w h k = named_alone f names (raw.bytes c) v 
 one_variant f names (raw.text c) v w h k = named_alone f names (raw.text c) v w h k
 one_variant f names (raw.bytes_chunks cs) v w h k = named_alone f names (raw.bytes_chunks cs) v w h k
 one_variant f names (raw.text_chunks cs) v w h k = named_alone f names (raw.text_chunks cs) v w h k
+one_variant f names (raw.negative x n) v w h k = absurd h.1
 one_variant f names _ v w h k = absurd h.1.1

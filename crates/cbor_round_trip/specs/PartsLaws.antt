@@ -10,56 +10,56 @@ use Rattle.cbor_parts.specs.declared.OneOf6.{OneOf6}
 use Rattle.cbor_parts.specs.declared.OneOf7.{OneOf7}
 use Rattle.cbor_parts.specs.declared.OneOf8.{OneOf8}
 use Rattle.cbor_round_trip.specs.Enums.{same1, same2, same3, same4, same5, same6, same7, same8}
-use Rattle.cbor_round_trip.specs.StructFields.{field_back, last_field_back, struct_back}
+use Rattle.cbor_round_trip.specs.StructFields.{field_back, last_field_back}
 use Rattle.cbor_round_trip.specs.Lists.{last_back, part_back}
-use Rattle.cbor_round_trip.specs.TypeLaws.{Law, FieldLaw, FieldsLaw, fields_law, TupleLaw, tuple_law, PartsLaw, parts_law, VariantLaw}
+use Rattle.cbor_round_trip.specs.TypeLaws.{Law, FieldLaw, FieldsLaw, struct_law, TupleLaw, tuple_law, PartsLaw, parts_law, VariantLaw}
 use Rattle.cbor_round_trip.specs.Variants.{enum_back, no_variants_back, variant_back}
 
 -- ---- the fields of a struct, which are read as nested lists of four
 
 abbrev pub fields2 : {A B : Type 0} → FieldLaw A → FieldLaw B
     → FieldsLaw (A × B)
-fields2 {A} {B} a b = fields_law 2 (struct_back (field_back {S = A × (B × Unit {0})} {view = λ x. (x.0, (x.1, tt))} {of = λ p. p.0} a.back (last_field_back {of = λ p. p.1.0} b.back)) (λ t. refl))
+fields2 {A} {B} a b = struct_law 2 (field_back {S = A × (B × Unit {0})} {view = λ x. (x.0, (x.1, tt))} {of = λ p. p.0} a.back (last_field_back {of = λ p. p.1.0} b.back)) (λ t. refl)
 
 abbrev pub fields3 : {A B C : Type 0} → FieldLaw A → FieldLaw B → FieldLaw C
     → FieldsLaw (A × B × C)
-fields3 {A} {B} {C} a b c = fields_law 3 (struct_back (field_back {S = A × (B × (C × Unit {0}))} {view = λ x. (x.0, (x.1, (x.2, tt)))} {of = λ p. p.0} a.back (field_back {of = λ p. p.1.0} b.back (last_field_back {of = λ p. p.1.1.0} c.back))) (λ t. refl))
+fields3 {A} {B} {C} a b c = struct_law 3 (field_back {S = A × (B × (C × Unit {0}))} {view = λ x. (x.0, (x.1, (x.2, tt)))} {of = λ p. p.0} a.back (field_back {of = λ p. p.1.0} b.back (last_field_back {of = λ p. p.1.1.0} c.back))) (λ t. refl)
 
 abbrev pub fields4 : {A B C D : Type 0} → FieldLaw A → FieldLaw B → FieldLaw C → FieldLaw D
     → FieldsLaw (A × B × C × D)
-fields4 {A} {B} {C} {D} a b c d = fields_law 4 (struct_back (field_back {S = A × B × C × D × Unit {0}} {view = λ x. (x.0, x.1, x.2, x.3, tt)} {of = λ p. p.0} a.back (field_back {of = λ p. p.1} b.back (field_back {of = λ p. p.2} c.back (last_field_back {of = λ p. p.3} d.back)))) (λ t. refl))
+fields4 {A} {B} {C} {D} a b c d = struct_law 4 (field_back {S = A × B × C × D × Unit {0}} {view = λ x. (x.0, x.1, x.2, x.3, tt)} {of = λ p. p.0} a.back (field_back {of = λ p. p.1} b.back (field_back {of = λ p. p.2} c.back (last_field_back {of = λ p. p.3} d.back)))) (λ t. refl)
 
 abbrev pub fields5 : {A B C D E : Type 0} → FieldLaw A → FieldLaw B → FieldLaw C → FieldLaw D → FieldLaw E
     → FieldsLaw (A × B × C × D × E)
-fields5 {A} {B} {C} {D} {E} a b c d e = fields_law 5 (struct_back (field_back {S = A × B × C × D × (E × Unit {0})} {view = λ x. (x.0, x.1, x.2, x.3, (x.4, tt))} {of = λ p. p.0} a.back (field_back {of = λ p. p.1} b.back (field_back {of = λ p. p.2} c.back (field_back {of = λ p. p.3} d.back (last_field_back {of = λ p. p.4.0} e.back))))) (λ t. refl))
+fields5 {A} {B} {C} {D} {E} a b c d e = struct_law 5 (field_back {S = A × B × C × D × (E × Unit {0})} {view = λ x. (x.0, x.1, x.2, x.3, (x.4, tt))} {of = λ p. p.0} a.back (field_back {of = λ p. p.1} b.back (field_back {of = λ p. p.2} c.back (field_back {of = λ p. p.3} d.back (last_field_back {of = λ p. p.4.0} e.back))))) (λ t. refl)
 
 abbrev pub fields6 : {A B C D E F : Type 0} → FieldLaw A → FieldLaw B → FieldLaw C → FieldLaw D → FieldLaw E → FieldLaw F
     → FieldsLaw (A × B × C × D × E × F)
-fields6 {A} {B} {C} {D} {E} {F} a b c d e f = fields_law 6 (struct_back (field_back {S = A × B × C × D × (E × (F × Unit {0}))} {view = λ x. (x.0, x.1, x.2, x.3, (x.4, (x.5, tt)))} {of = λ p. p.0} a.back (field_back {of = λ p. p.1} b.back (field_back {of = λ p. p.2} c.back (field_back {of = λ p. p.3} d.back (field_back {of = λ p. p.4.0} e.back (last_field_back {of = λ p. p.4.1.0} f.back)))))) (λ t. refl))
+fields6 {A} {B} {C} {D} {E} {F} a b c d e f = struct_law 6 (field_back {S = A × B × C × D × (E × (F × Unit {0}))} {view = λ x. (x.0, x.1, x.2, x.3, (x.4, (x.5, tt)))} {of = λ p. p.0} a.back (field_back {of = λ p. p.1} b.back (field_back {of = λ p. p.2} c.back (field_back {of = λ p. p.3} d.back (field_back {of = λ p. p.4.0} e.back (last_field_back {of = λ p. p.4.1.0} f.back)))))) (λ t. refl)
 
 abbrev pub fields7 : {A B C D E F G : Type 0} → FieldLaw A → FieldLaw B → FieldLaw C → FieldLaw D → FieldLaw E → FieldLaw F → FieldLaw G
     → FieldsLaw (A × B × C × D × E × F × G)
-fields7 {A} {B} {C} {D} {E} {F} {G} a b c d e f g = fields_law 7 (struct_back (field_back {S = A × B × C × D × (E × (F × (G × Unit {0})))} {view = λ x. (x.0, x.1, x.2, x.3, (x.4, (x.5, (x.6, tt))))} {of = λ p. p.0} a.back (field_back {of = λ p. p.1} b.back (field_back {of = λ p. p.2} c.back (field_back {of = λ p. p.3} d.back (field_back {of = λ p. p.4.0} e.back (field_back {of = λ p. p.4.1.0} f.back (last_field_back {of = λ p. p.4.1.1.0} g.back))))))) (λ t. refl))
+fields7 {A} {B} {C} {D} {E} {F} {G} a b c d e f g = struct_law 7 (field_back {S = A × B × C × D × (E × (F × (G × Unit {0})))} {view = λ x. (x.0, x.1, x.2, x.3, (x.4, (x.5, (x.6, tt))))} {of = λ p. p.0} a.back (field_back {of = λ p. p.1} b.back (field_back {of = λ p. p.2} c.back (field_back {of = λ p. p.3} d.back (field_back {of = λ p. p.4.0} e.back (field_back {of = λ p. p.4.1.0} f.back (last_field_back {of = λ p. p.4.1.1.0} g.back))))))) (λ t. refl)
 
 abbrev pub fields8 : {A B C D E F G H : Type 0} → FieldLaw A → FieldLaw B → FieldLaw C → FieldLaw D → FieldLaw E → FieldLaw F → FieldLaw G → FieldLaw H
     → FieldsLaw (A × B × C × D × E × F × G × H)
-fields8 {A} {B} {C} {D} {E} {F} {G} {H} a b c d e f g h = fields_law 8 (struct_back (field_back {S = A × B × C × D × (E × F × G × H × Unit {0})} {view = λ x. (x.0, x.1, x.2, x.3, (x.4, x.5, x.6, x.7, tt))} {of = λ p. p.0} a.back (field_back {of = λ p. p.1} b.back (field_back {of = λ p. p.2} c.back (field_back {of = λ p. p.3} d.back (field_back {of = λ p. p.4.0} e.back (field_back {of = λ p. p.4.1} f.back (field_back {of = λ p. p.4.2} g.back (last_field_back {of = λ p. p.4.3} h.back)))))))) (λ t. refl))
+fields8 {A} {B} {C} {D} {E} {F} {G} {H} a b c d e f g h = struct_law 8 (field_back {S = A × B × C × D × (E × F × G × H × Unit {0})} {view = λ x. (x.0, x.1, x.2, x.3, (x.4, x.5, x.6, x.7, tt))} {of = λ p. p.0} a.back (field_back {of = λ p. p.1} b.back (field_back {of = λ p. p.2} c.back (field_back {of = λ p. p.3} d.back (field_back {of = λ p. p.4.0} e.back (field_back {of = λ p. p.4.1} f.back (field_back {of = λ p. p.4.2} g.back (last_field_back {of = λ p. p.4.3} h.back)))))))) (λ t. refl)
 
 abbrev pub fields9 : {A B C D E F G H I : Type 0} → FieldLaw A → FieldLaw B → FieldLaw C → FieldLaw D → FieldLaw E → FieldLaw F → FieldLaw G → FieldLaw H → FieldLaw I
     → FieldsLaw (A × B × C × D × E × F × G × H × I)
-fields9 {A} {B} {C} {D} {E} {F} {G} {H} {I} a b c d e f g h i = fields_law 9 (struct_back (field_back {S = A × B × C × D × (E × F × G × H × (I × Unit {0}))} {view = λ x. (x.0, x.1, x.2, x.3, (x.4, x.5, x.6, x.7, (x.8, tt)))} {of = λ p. p.0} a.back (field_back {of = λ p. p.1} b.back (field_back {of = λ p. p.2} c.back (field_back {of = λ p. p.3} d.back (field_back {of = λ p. p.4.0} e.back (field_back {of = λ p. p.4.1} f.back (field_back {of = λ p. p.4.2} g.back (field_back {of = λ p. p.4.3} h.back (last_field_back {of = λ p. p.4.4.0} i.back))))))))) (λ t. refl))
+fields9 {A} {B} {C} {D} {E} {F} {G} {H} {I} a b c d e f g h i = struct_law 9 (field_back {S = A × B × C × D × (E × F × G × H × (I × Unit {0}))} {view = λ x. (x.0, x.1, x.2, x.3, (x.4, x.5, x.6, x.7, (x.8, tt)))} {of = λ p. p.0} a.back (field_back {of = λ p. p.1} b.back (field_back {of = λ p. p.2} c.back (field_back {of = λ p. p.3} d.back (field_back {of = λ p. p.4.0} e.back (field_back {of = λ p. p.4.1} f.back (field_back {of = λ p. p.4.2} g.back (field_back {of = λ p. p.4.3} h.back (last_field_back {of = λ p. p.4.4.0} i.back))))))))) (λ t. refl)
 
 abbrev pub fields10 : {A B C D E F G H I J : Type 0} → FieldLaw A → FieldLaw B → FieldLaw C → FieldLaw D → FieldLaw E → FieldLaw F → FieldLaw G → FieldLaw H → FieldLaw I → FieldLaw J
     → FieldsLaw (A × B × C × D × E × F × G × H × I × J)
-fields10 {A} {B} {C} {D} {E} {F} {G} {H} {I} {J} a b c d e f g h i j = fields_law 10 (struct_back (field_back {S = A × B × C × D × (E × F × G × H × (I × (J × Unit {0})))} {view = λ x. (x.0, x.1, x.2, x.3, (x.4, x.5, x.6, x.7, (x.8, (x.9, tt))))} {of = λ p. p.0} a.back (field_back {of = λ p. p.1} b.back (field_back {of = λ p. p.2} c.back (field_back {of = λ p. p.3} d.back (field_back {of = λ p. p.4.0} e.back (field_back {of = λ p. p.4.1} f.back (field_back {of = λ p. p.4.2} g.back (field_back {of = λ p. p.4.3} h.back (field_back {of = λ p. p.4.4.0} i.back (last_field_back {of = λ p. p.4.4.1.0} j.back)))))))))) (λ t. refl))
+fields10 {A} {B} {C} {D} {E} {F} {G} {H} {I} {J} a b c d e f g h i j = struct_law 10 (field_back {S = A × B × C × D × (E × F × G × H × (I × (J × Unit {0})))} {view = λ x. (x.0, x.1, x.2, x.3, (x.4, x.5, x.6, x.7, (x.8, (x.9, tt))))} {of = λ p. p.0} a.back (field_back {of = λ p. p.1} b.back (field_back {of = λ p. p.2} c.back (field_back {of = λ p. p.3} d.back (field_back {of = λ p. p.4.0} e.back (field_back {of = λ p. p.4.1} f.back (field_back {of = λ p. p.4.2} g.back (field_back {of = λ p. p.4.3} h.back (field_back {of = λ p. p.4.4.0} i.back (last_field_back {of = λ p. p.4.4.1.0} j.back)))))))))) (λ t. refl)
 
 abbrev pub fields11 : {A B C D E F G H I J K : Type 0} → FieldLaw A → FieldLaw B → FieldLaw C → FieldLaw D → FieldLaw E → FieldLaw F → FieldLaw G → FieldLaw H → FieldLaw I → FieldLaw J → FieldLaw K
     → FieldsLaw (A × B × C × D × E × F × G × H × I × J × K)
-fields11 {A} {B} {C} {D} {E} {F} {G} {H} {I} {J} {K} a b c d e f g h i j k = fields_law 11 (struct_back (field_back {S = A × B × C × D × (E × F × G × H × (I × (J × (K × Unit {0}))))} {view = λ x. (x.0, x.1, x.2, x.3, (x.4, x.5, x.6, x.7, (x.8, (x.9, (x.10, tt)))))} {of = λ p. p.0} a.back (field_back {of = λ p. p.1} b.back (field_back {of = λ p. p.2} c.back (field_back {of = λ p. p.3} d.back (field_back {of = λ p. p.4.0} e.back (field_back {of = λ p. p.4.1} f.back (field_back {of = λ p. p.4.2} g.back (field_back {of = λ p. p.4.3} h.back (field_back {of = λ p. p.4.4.0} i.back (field_back {of = λ p. p.4.4.1.0} j.back (last_field_back {of = λ p. p.4.4.1.1.0} k.back))))))))))) (λ t. refl))
+fields11 {A} {B} {C} {D} {E} {F} {G} {H} {I} {J} {K} a b c d e f g h i j k = struct_law 11 (field_back {S = A × B × C × D × (E × F × G × H × (I × (J × (K × Unit {0}))))} {view = λ x. (x.0, x.1, x.2, x.3, (x.4, x.5, x.6, x.7, (x.8, (x.9, (x.10, tt)))))} {of = λ p. p.0} a.back (field_back {of = λ p. p.1} b.back (field_back {of = λ p. p.2} c.back (field_back {of = λ p. p.3} d.back (field_back {of = λ p. p.4.0} e.back (field_back {of = λ p. p.4.1} f.back (field_back {of = λ p. p.4.2} g.back (field_back {of = λ p. p.4.3} h.back (field_back {of = λ p. p.4.4.0} i.back (field_back {of = λ p. p.4.4.1.0} j.back (last_field_back {of = λ p. p.4.4.1.1.0} k.back))))))))))) (λ t. refl)
 
 abbrev pub fields12 : {A B C D E F G H I J K L : Type 0} → FieldLaw A → FieldLaw B → FieldLaw C → FieldLaw D → FieldLaw E → FieldLaw F → FieldLaw G → FieldLaw H → FieldLaw I → FieldLaw J → FieldLaw K → FieldLaw L
     → FieldsLaw (A × B × C × D × E × F × G × H × I × J × K × L)
-fields12 {A} {B} {C} {D} {E} {F} {G} {H} {I} {J} {K} {L} a b c d e f g h i j k l = fields_law 12 (struct_back (field_back {S = A × B × C × D × (E × F × G × H × (I × J × K × L × Unit {0}))} {view = λ x. (x.0, x.1, x.2, x.3, (x.4, x.5, x.6, x.7, (x.8, x.9, x.10, x.11, tt)))} {of = λ p. p.0} a.back (field_back {of = λ p. p.1} b.back (field_back {of = λ p. p.2} c.back (field_back {of = λ p. p.3} d.back (field_back {of = λ p. p.4.0} e.back (field_back {of = λ p. p.4.1} f.back (field_back {of = λ p. p.4.2} g.back (field_back {of = λ p. p.4.3} h.back (field_back {of = λ p. p.4.4.0} i.back (field_back {of = λ p. p.4.4.1} j.back (field_back {of = λ p. p.4.4.2} k.back (last_field_back {of = λ p. p.4.4.3} l.back)))))))))))) (λ t. refl))
+fields12 {A} {B} {C} {D} {E} {F} {G} {H} {I} {J} {K} {L} a b c d e f g h i j k l = struct_law 12 (field_back {S = A × B × C × D × (E × F × G × H × (I × J × K × L × Unit {0}))} {view = λ x. (x.0, x.1, x.2, x.3, (x.4, x.5, x.6, x.7, (x.8, x.9, x.10, x.11, tt)))} {of = λ p. p.0} a.back (field_back {of = λ p. p.1} b.back (field_back {of = λ p. p.2} c.back (field_back {of = λ p. p.3} d.back (field_back {of = λ p. p.4.0} e.back (field_back {of = λ p. p.4.1} f.back (field_back {of = λ p. p.4.2} g.back (field_back {of = λ p. p.4.3} h.back (field_back {of = λ p. p.4.4.0} i.back (field_back {of = λ p. p.4.4.1} j.back (field_back {of = λ p. p.4.4.2} k.back (last_field_back {of = λ p. p.4.4.3} l.back)))))))))))) (λ t. refl)
 
 -- ---- the parts of a variant
 

@@ -3,19 +3,23 @@
 use crate::round_trip::RoundTrip;
 use cbor_de::FieldType;
 use cbor_described::{ReadableParts, ReadableTuple, Variant};
-use cbor_parts::{FieldNames, Newtype, Optional, OrDefault, Schema, Struct, Tuple};
+use cbor_parts::{
+    FieldLabels, FieldNames, Labelled, Newtype, Optional, OrDefault, Schema, Struct, Tuple,
+};
 use cbor_ser::{FieldDocument, FieldsDocument, PartsDocument, TupleDocuments, VariantDocument};
 
 /// The parts of a struct or an enum, which are read back where the names are as many, and no two of
-/// them the same.
+/// them (of a [`Labelled`] no two labels) the same.
 pub trait PartsRoundTrip: PartsDocument + ReadableParts {
+    ghost use Rattle.cbor_parts.specs.Keys.{named_keys};
     ghost use Rattle.cbor_round_trip.specs.TypeLaws.{ByNames, PartsLaw};
 
     // The law as a value, with what it asks of a value (`fits`), and of defaults (`determined`).
     ghost law: { PartsLaw Self };
 
     // By such names the parts are read back.
-    ghost back: { ByNames law.count Self.document Self.reads law.fits law.determined };
+    ghost back: { ByNames law.count law.told Self.document (λ names. Self.reads (named_keys names))
+        law.fits law.determined };
 }
 
 /// A field of a struct that is read back: what is `RoundTrip`, or [`Optional`] or [`OrDefault`] of
@@ -65,37 +69,53 @@ impl<T: RoundTrip + Default + Drop> FieldRoundTrip for OrDefault<T> {
 
 /// The fields of a struct: a tuple of what is read back.
 pub trait FieldsRoundTrip: FieldsDocument + ReadableParts {
-    ghost use Rattle.cbor_model.specs.Document.{structure};
-    ghost use Rattle.cbor_round_trip.specs.TypeLaws.{ByNames, FieldsLaw};
+    ghost use Rattle.cbor_round_trip.specs.TypeLaws.{ByKeys, FieldsLaw};
 
     // The law as a value, with what it asks of a value (`fits`), and of defaults (`determined`).
     ghost law: { FieldsLaw Self };
 
-    // By such names the parts are read back.
-    ghost back: { ByNames law.count (λ names t. structure (Self.fields names t)) Self.reads
-        law.fits law.determined };
+    // By such keys the fields are read back.
+    ghost back: { ByKeys law.count Self.fields Self.reads law.fits law.determined };
 }
 
 impl<F: FieldsRoundTrip> PartsRoundTrip for F {
-    ghost use Rattle.cbor_round_trip.specs.TypeLaws.{parts_law};
+    ghost use Rattle.cbor_round_trip.specs.TypeLaws.{by_names_alone, parts_law};
 
-    ghost law = { parts_law F.law.count F.law.back };
+    ghost law = { parts_law F.law.count (by_names_alone F.law.fields F.law.back) };
 
-    ghost back = { F.back };
+    ghost back = { by_names_alone F.fields F.back };
+}
+
+/// The labels are as many as the fields, and no two of them the same.
+impl<L: FieldLabels> PartsRoundTrip for Labelled<L>
+where
+    L::Parts: FieldsRoundTrip,
+{
+    ghost use Rattle.cbor_round_trip.specs.ReadBack.{by_part};
+    ghost use Rattle.cbor_round_trip.specs.TypeLaws.{labelled_back, parts_law};
+
+    ghost law = { parts_law L.Parts.law.count (λ names as_many told. by_part (λ p. p.0)
+        (labelled_back L.Parts.law.fields L.labels L.Parts.law.back names as_many told)) };
+
+    ghost back = { λ names as_many told. by_part (λ p. p.0)
+        (labelled_back L.Parts.fields L.labels L.Parts.back names as_many told) };
 }
 
 impl<T: RoundTrip + Drop> PartsRoundTrip for Newtype<T> {
+    ghost use Rattle.std.specs.Prelude.{true};
     ghost use Rattle.cbor_round_trip.specs.ReadBack.{by_part};
     ghost use Rattle.cbor_round_trip.specs.TypeLaws.{parts_law};
 
-    ghost law = { parts_law 0 (λ names as_many distinct. by_part (λ p. p.0) T.law.back) };
+    ghost law = { parts_law 0 {told = λ names. true}
+        (λ names as_many told. by_part (λ p. p.0) T.law.back) };
 
-    ghost back = { λ names as_many distinct. by_part (λ p. p.0) T.back };
+    ghost back = { λ names as_many told. by_part (λ p. p.0) T.back };
 }
 
 /// The law of a struct or an enum by its description, which a type with a
 /// [`Schema`](cbor_parts::Schema) has where its parts are read back, and quotes. The two `refl`
-/// show that its names are as many as its parts, and no two of them the same.
+/// show that its names are as many as its parts, and no two of them (of a [`Labelled`] its labels)
+/// the same.
 ///
 /// ```rust
 /// impl RoundTrip for User {
@@ -176,11 +196,11 @@ where
     N::Parts: FieldsRoundTrip,
 {
     ghost use Rattle.cbor_round_trip.specs.Variants.{struct_variant_back};
-    ghost use Rattle.cbor_round_trip.specs.TypeLaws.{variant_law};
+    ghost use Rattle.cbor_round_trip.specs.TypeLaws.{by_names_alone, variant_law};
 
     ghost law = { variant_law (struct_variant_back (λ v. v.0) N.Parts.law.fields N.names
-        N.Parts.law.count N.Parts.law.back) };
+        N.Parts.law.count (by_names_alone N.Parts.law.fields N.Parts.law.back)) };
 
-    ghost back = { struct_variant_back
-        (λ v. v.0) N.Parts.fields N.names N.Parts.law.count N.Parts.back };
+    ghost back = { struct_variant_back (λ v. v.0) N.Parts.fields N.names N.Parts.law.count
+        (by_names_alone N.Parts.fields N.Parts.back) };
 }

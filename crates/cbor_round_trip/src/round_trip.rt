@@ -25,8 +25,8 @@ use cbor_ser::Serialize;
 /// `&str` or another that borrows.
 ///
 /// A struct or an enum by description has the law of its parts
-/// ([`RoundTripBy`](crate::RoundTripBy)), where no two of its names are the same, which
-/// the two `refl` show:
+/// ([`RoundTripBy`](crate::RoundTripBy)), where no two of its names, or of its labels, are the same,
+/// which the two `refl` show:
 ///
 /// ```rust
 /// impl RoundTrip for User {

@@ -111,11 +111,11 @@ impl<
 impl<A: FieldRoundTrip> FieldsRoundTrip for (A,) {
     ghost use Rattle.std.specs.Prelude.{refl};
     ghost use Rattle.cbor_round_trip.specs.StructFields.{last_field_back, struct_back};
-    ghost use Rattle.cbor_round_trip.specs.TypeLaws.{fields_law};
+    ghost use Rattle.cbor_round_trip.specs.TypeLaws.{struct_law};
 
-    ghost law = { fields_law 1 (struct_back
+    ghost law = { struct_law 1
         (last_field_back {S = A × Unit {0}} {view = λ t. (t.0, tt)} {of = λ p. p.0} A.law.back)
-        (λ t. refl)) };
+        (λ t. refl) };
 
     ghost back = { struct_back (last_field_back A.read_back) (λ t. refl) };
 }

@@ -2,12 +2,14 @@
 
 use crate::message::Message;
 use cbor_tables::{Desk, Row};
+use own_types::labels::Key;
 use own_types::records::{Pair, Settings};
 use row_types::assorted::Assorted;
 use row_types::bookmark::Bookmark;
 use row_types::choice::Choice;
 use row_types::enums::{DataEnum, TwoVariants, Wish};
 use row_types::floats::FloatEnum;
+use row_types::labels::{Claims, Headers, PublicKey, SymmetricKey};
 use row_types::letters::{EnumStruct, Letter, ReprEnumStruct};
 use row_types::structs::{Brief, NewtypeStruct, OptionalPerson, UnitStruct};
 use row_types::weather::Weather;
@@ -16,7 +18,9 @@ use samples::nested::{Example, Foo};
 use samples::structs::{Mascot, Person, SmallStruct, User};
 use samples::tree::Tree;
 use serde_cbor::Deserializer;
+use serde_cbor::bytes::ByteBuf;
 use serde_cbor::de::Read;
+use serde_cbor::tags::Tagged;
 use std::io;
 
 /// Judges a row of one of these; false where the type isn't known.
@@ -99,6 +103,26 @@ fn nested<'r, R: Read<'r> + Drop>(
         "Message" => desk.reads::<Message, R>(row, de)?,
         "Settings" => desk.reads::<Settings, R>(row, de)?,
         "Pair<u8>" => desk.reads::<Pair<u8>, R>(row, de)?,
+        _ => return labelled(desk, row, de),
+    }
+    Ok(true)
+}
+
+fn labelled<'r, R: Read<'r> + Drop>(
+    desk: &mut Desk<'_>,
+    row: &Row<'_>,
+    de: Deserializer<R>,
+) -> io::Result<bool> {
+    match row.kind {
+        "Headers" => desk.reads::<Headers, R>(row, de)?,
+        "Key" => desk.reads::<Key, R>(row, de)?,
+        "PublicKey" => desk.reads::<PublicKey, R>(row, de)?,
+        "Vec<PublicKey>" => desk.reads::<Vec<PublicKey>, R>(row, de)?,
+        "SymmetricKey" => desk.reads::<SymmetricKey, R>(row, de)?,
+        "Claims" => desk.reads::<Claims, R>(row, de)?,
+        "Tagged<(ByteBuf, Headers, ByteBuf, ByteBuf)>" => {
+            desk.reads::<Tagged<(ByteBuf, Headers, ByteBuf, ByteBuf)>, R>(row, de)?
+        }
         _ => return Ok(false),
     }
     Ok(true)

@@ -12,26 +12,25 @@ use Rattle.cbor_model.specs.InRange.{IsInRange, AreInRange, ArePairsInRange}
 use Rattle.cbor_model.specs.Order.{lex, major_type}
 use Rattle.cbor_model.specs.Plain.{Val, null, bool, integer, float, bytes, text, array, map, tag, Vals, no_vals, val, Pairs, no_pairs, pair}
 use Rattle.cbor_model.specs.Raw as raw
-use Rattle.cbor_model.specs.Raw.{definite, indefinite, Raw, Raws, no_raws, RawPairs, no_raw_pairs, raw_pair, null_item, undefined_item, IsWellFormed, AreWellFormed, ArePairsWellFormed}
+use Rattle.cbor_model.specs.Raw.{definite, indefinite, Raw, Raws, no_raws, RawPairs, no_raw_pairs, raw_pair, null_item, IsWellFormed, AreWellFormed, ArePairsWellFormed}
 use Rattle.cbor_model.specs.Spelling.{spell, spell_all, spell_pairs}
 use Rattle.cbor_model.specs.Value.{value}
 use Rattle.cbor_model.proofs.facts.Laws.{value_is_canonical, value_is_storable}
 use Rattle.cbor_forms.specs.LengthFirst.{by_length}
 use Rattle.cbor_rules.specs.Features.{Feature, number as number_of, simple_item, float_bits, key, head_end, features, all_features, pair_features}
 use Rattle.cbor_rules.specs.Presets as presets
-use Rattle.cbor_rules.specs.Presets.{defined, IsPlain, IsForCtap2, AreForCtap2, ArePairsForCtap2, IsCtap2Of, WrittenIsAccepted, AcceptedIsWritten}
+use Rattle.cbor_rules.specs.Presets.{IsPlain, IsForCtap2, AreForCtap2, ArePairsForCtap2, IsCtap2Of, WrittenIsAccepted, AcceptedIsWritten}
 use Rattle.cbor_rules.specs.Rules.{latest, only, breaks, is_compound, is_less, key_cmp, major}
 use Rattle.cbor_rules.specs.declared.settings.Rules.{Rules}
 use Rattle.cbor_rules.specs.declared.settings.KeyOrder.TheVariants.{TypeFirst}
 use Rattle.cbor_rules.specs.declared.settings.Rule.TheVariants.{ShortestHeads, DefiniteLengths, PlainKeys, AscendingKeys, UniqueKeys, ReducedNumbers, ShortestFloats, OneNan, NoUndefined, NoTags, MostItems, MostPairs, MostBytes}
 use Rattle.cbor_rules.proofs.Canonical as canonical
 use Rattle.cbor_rules.proofs.Canonical.{IsFine, AreFine, kept_fine, fine_kept, first_fine, rest_fine, both_fine, and_false, items_free, pairs_free, bytes_free, less, first_above, clean, in_range}
-use Rattle.cbor_rules.proofs.Deterministic.{fine_too}
 use Rattle.cbor_rules.proofs.LengthFirstItems.{first_after}
 use Rattle.cbor_rules.proofs.TypeOrder.{head_major, major-is, type_first}
 
 abbrev all : Rules
-all = defined presets.ctap2
+all = presets.ctap2
 
 -- ---- features
 
@@ -301,7 +300,7 @@ mutual
 
 -- ---- the laws
 
-pub accepted_is_written : AcceptedIsWritten (defined presets.ctap2) IsCtap2Of
+pub accepted_is_written : AcceptedIsWritten presets.ctap2 IsCtap2Of
 accepted_is_written bs v short spelt keeps =
     let r = spelt.item in
     let fine = kept_fine all r keeps in
@@ -311,8 +310,8 @@ accepted_is_written bs v short spelt keeps =
       canonical.accepted_is_written bs v short spelt (fine_kept presets.canonical r plain),
     )
 
-pub written_is_defined : WrittenIsAccepted (defined presets.ctap2) IsCtap2Of
-written_is_defined bs v short spelt is =
+pub written_is_accepted : WrittenIsAccepted presets.ctap2 IsCtap2Of
+written_is_accepted bs v short spelt is =
     let r = spelt.item in
     let same = canonical.canonical_item bs v short spelt is.1 in
     let good = value_is_canonical max_depth r spelt.acceptable (subst (λ (bs : List ℕ). length bs < 2 ^ 64) (sym spelt.spelled) short) in
@@ -322,27 +321,3 @@ written_is_defined bs v short spelt is =
     fine_kept all r
     (subst (λ (s : Raw). AreFine all (features 0 s)) (sym same)
     (typed 0 v is.0 stored held (subst (λ (s : Raw). AreFine presets.canonical (features 0 s)) same plain)))
-
--- and undefined is not refused
-not_defined : (f : Feature) → IsFine all f → IsFine presets.ctap2 f
-not_defined f fine ShortestHeads = fine ShortestHeads
-not_defined f fine DefiniteLengths = fine DefiniteLengths
-not_defined f fine PlainKeys = fine PlainKeys
-not_defined f fine AscendingKeys = fine AscendingKeys
-not_defined f fine UniqueKeys = fine UniqueKeys
-not_defined f fine ReducedNumbers = fine ReducedNumbers
-not_defined f fine ShortestFloats = fine ShortestFloats
-not_defined f fine OneNan = fine OneNan
-not_defined (simple_item undefined_item) fine NoUndefined = refl
-not_defined (simple_item _) fine NoUndefined = refl
-not_defined _ fine NoUndefined = refl
-not_defined f fine NoTags = fine NoTags
-not_defined f fine MostItems = fine MostItems
-not_defined f fine MostPairs = fine MostPairs
-not_defined f fine MostBytes = fine MostBytes
-
-pub written_is_accepted : WrittenIsAccepted presets.ctap2 IsCtap2Of
-written_is_accepted bs v short spelt is =
-    let r = spelt.item in
-    fine_kept presets.ctap2 r
-    (fine_too all presets.ctap2 not_defined (features 0 r) (kept_fine all r (written_is_defined bs v short spelt is)))

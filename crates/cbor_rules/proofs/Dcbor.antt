@@ -27,7 +27,7 @@ use Rattle.cbor_rules.specs.Features.{Feature, number as number_of, indefinite_l
 use Rattle.cbor_rules.specs.Features.{float_bits, key, nth_item, place, head_end, length_end, features}
 use Rattle.cbor_rules.specs.Features.{all_features, open_features, pair_features}
 use Rattle.cbor_rules.specs.Presets as presets
-use Rattle.cbor_rules.specs.Presets.{WrittenIsAccepted, AcceptedIsWritten, IsDcborOf, defined}
+use Rattle.cbor_rules.specs.Presets.{WrittenIsAccepted, AcceptedIsWritten, IsDcborOf}
 use Rattle.cbor_rules.specs.Presets.{HasReducedNumbers, HaveReducedNumbers, PairsHaveReducedNumbers}
 use Rattle.cbor_rules.specs.Presets.{HasShortestFloats, HaveShortestFloats, PairsHaveShortestFloats}
 use Rattle.cbor_rules.specs.Rules.{only, breaks, floor}
@@ -49,7 +49,7 @@ abbrev reduced_only : Rules
 reduced_only = record presets.any_item { reduced_numbers = true }
 
 abbrev others : Rules
-others = defined presets.deterministic
+others = presets.deterministic
 
 -- ---- the rules are those of the deterministic form, and that one
 
@@ -343,6 +343,6 @@ module _ (apart : ApartFloats) where
       let same = canonical.canonical_item bs v short spelt is.1.1 in
       fine_kept presets.dcbor r
       (fine_both others reduced_only presets.dcbor is_dcbor (features 0 r)
-      (kept_fine others r (deterministic.written_is_defined apart bs v short spelt is.1))
+      (kept_fine others r (deterministic.written_is_accepted apart bs v short spelt is.1))
       (subst (λ (r : Raw). AreFine reduced_only (features 0 r)) (sym same)
       (numbers_kept 0 v is.0)))

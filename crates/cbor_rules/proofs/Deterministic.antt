@@ -19,7 +19,7 @@ use Rattle.cbor_forms.specs.Shortened.{shortened, rewritten, all_rewritten, pair
 use Rattle.cbor_forms.specs.declared.values.Form.TheVariants.{Core}
 use Rattle.cbor_rules.specs.Features.{Feature, number as number_of, indefinite_length, simple_item, float_bits, key, nth_item, chunk_to, Place, place, head_end, length_end, features, all_features, open_features, pair_features}
 use Rattle.cbor_rules.specs.Presets as presets
-use Rattle.cbor_rules.specs.Presets.{WrittenIsAccepted, AcceptedIsWritten, IsDeterministicOf, IsShortest, HasShortestFloats, HaveShortestFloats, PairsHaveShortestFloats, ShortenedHasShortestFloats, defined}
+use Rattle.cbor_rules.specs.Presets.{WrittenIsAccepted, AcceptedIsWritten, IsDeterministicOf, IsShortest, HasShortestFloats, HaveShortestFloats, PairsHaveShortestFloats, ShortenedHasShortestFloats}
 use Rattle.cbor_rules.specs.Rules.{only, breaks, floor}
 use Rattle.cbor_rules.specs.declared.settings.Rules.{Rules}
 use Rattle.cbor_rules.specs.declared.settings.KeyOrder.{KeyOrder}
@@ -46,7 +46,7 @@ module _ (rules others : Rules) where
 
 -- the rules of a deterministic form, with keys in this order
 abbrev pub with_keys : KeyOrder → Rules
-with_keys order = record (defined presets.deterministic) { keys = order }
+with_keys order = record presets.deterministic { keys = order }
 
 -- all of them are the canonical ones and those about floats
 pub is_canonical : (order : KeyOrder) (f : Feature) → IsFine (with_keys order) f → IsFine (by_keys order) f
@@ -111,24 +111,6 @@ floats_fine _ short one NoUndefined = refl
 
 pub is_floats : (order : KeyOrder) (f : Feature) → IsFine (with_keys order) f → IsFine floats_only f
 is_floats order f fine = floats_fine f (fine ShortestFloats) (fine OneNan)
-
--- and undefined is not refused
-pub not_defined : (order : KeyOrder) (f : Feature) → IsFine (with_keys order) f → IsFine (record presets.deterministic { keys = order }) f
-not_defined order f fine ShortestHeads = fine ShortestHeads
-not_defined order f fine DefiniteLengths = fine DefiniteLengths
-not_defined order f fine PlainKeys = fine PlainKeys
-not_defined order f fine AscendingKeys = fine AscendingKeys
-not_defined order f fine UniqueKeys = fine UniqueKeys
-not_defined order f fine ReducedNumbers = fine ReducedNumbers
-not_defined order f fine ShortestFloats = fine ShortestFloats
-not_defined order f fine OneNan = fine OneNan
-not_defined order (simple_item undefined_item) fine NoUndefined = refl
-not_defined order (simple_item _) fine NoUndefined = refl
-not_defined order _ fine NoUndefined = refl
-not_defined order f fine NoTags = fine NoTags
-not_defined order f fine MostItems = fine MostItems
-not_defined order f fine MostPairs = fine MostPairs
-not_defined order f fine MostBytes = fine MostBytes
 
 -- only floats break any of the rules about them
 abbrev IsFloat : Feature → Type 0
@@ -307,7 +289,7 @@ module _ (once : (v : Val) → shortened (shortened v) ≡ shortened v) where
 abbrev all : Rules
 all = with_keys Bytewise
 
-pub accepted_is_written : AcceptedIsWritten (defined presets.deterministic) IsDeterministicOf
+pub accepted_is_written : AcceptedIsWritten presets.deterministic IsDeterministicOf
 accepted_is_written bs v short spelt keeps =
     let r = spelt.item in
     let fine = kept_fine all r keeps in
@@ -318,20 +300,14 @@ accepted_is_written bs v short spelt keeps =
     )
 
 module _ (apart : ApartFloats) where
-  pub written_is_defined : WrittenIsAccepted (defined presets.deterministic) IsDeterministicOf
-  written_is_defined bs v short spelt is =
+  pub written_is_accepted : WrittenIsAccepted presets.deterministic IsDeterministicOf
+  written_is_accepted bs v short spelt is =
       let r = spelt.item in
       let same = canonical.canonical_item bs v short spelt is.1 in
       fine_kept all r
       (fine_both presets.canonical floats_only all (is_all Bytewise) (features 0 r)
       (kept_fine presets.canonical r (canonical.written_is_accepted bs v short spelt is.1))
       (subst (λ (r : Raw). AreFine floats_only (features 0 r)) (sym same) (floats_kept apart 0 v is.0)))
-
-  pub written_is_accepted : WrittenIsAccepted presets.deterministic IsDeterministicOf
-  written_is_accepted bs v short spelt is =
-      let r = spelt.item in
-      fine_kept presets.deterministic r
-      (fine_too all presets.deterministic (not_defined Bytewise) (features 0 r) (kept_fine all r (written_is_defined bs v short spelt is)))
 
 -- floats of one number have one shortest float
 pub apart : ((a b : Float) → (number_of_float a ≡ number_of_float b) ↔ (shortened (float_view a) ≡ shortened (float_view b))) → ApartFloats

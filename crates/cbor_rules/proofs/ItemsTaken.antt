@@ -1,5 +1,6 @@
 -- An item that is read at the front of the bytes that are to come, and what the walk over its bytes says.
-use Rattle.std.proofs.Common.{◌≡◌, ◌∙◌, ◌≤◌, ◌+◌, ◌-◌, ℕ, List, ◌++◌, length, take, drop, Option, Some, None, inl, inr, sym, ap, subst, arith}
+use Rattle.std.proofs.Common.{◌≡◌, ◌≢◌, ◌∙◌, ◌≤◌, ◌+◌, ◌-◌, ℕ, List, [], ◌++◌, length, take, drop, Option, Some, None, inl, inr, sym, ap, subst, arith, length-drop}
+use Rattle.std.specs.Prelude.{Result, Ok, Err, OnErr}
 use Rattle.std.proofs.Math.Seq.{take-append-add, take-append_seam}
 use Rattle.std.proofs.lemmas.Bool.{cases_lt}
 use Rattle.cbor_model.specs.Acceptable.{max_depth}
@@ -89,3 +90,13 @@ module _ {A : Type 0} (reads : Raw → A → Type 0) (s : Items) (x : A) (end : 
           front = record { read = subst (λ (rest : List ℕ). BeginsAs all_formats max_depth reads (to_come s) x rest) left ends.read; keeps = keeps };
           took = after ∙ ap (λ (n : ℕ). record s { taken = n }) ends.long;
         }
+
+-- ---- the end
+
+-- bytes are to come where not all were taken
+pub more_to_come : (s : Items) → s.taken ≤ length s.input → (s.taken ≢ length s.input) → to_come s ≢ []
+more_to_come s within more ends = more (omega (arith, within, ap length ends, length-drop s.taken s.input))
+
+pub on_err_always : {A E : Type 0} (r : Result A E) {P : Type 0} → P → OnErr r P
+on_err_always (Ok x) p = tt
+on_err_always (Err e) p = p

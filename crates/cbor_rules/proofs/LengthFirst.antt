@@ -13,7 +13,7 @@ use Rattle.cbor_model.proofs.facts.Maps.{put_all-ascending}
 use Rattle.cbor_forms.specs.LengthFirst.{length_first, all_length_first, encoded, joined, by_length, as_byte_strings}
 use Rattle.cbor_rules.specs.Features.{head_end, features, all_features, pair_features}
 use Rattle.cbor_rules.specs.Presets as presets
-use Rattle.cbor_rules.specs.Presets.{AcceptedIsWritten, IsLengthFirstOf, HasShortestFloats, defined}
+use Rattle.cbor_rules.specs.Presets.{AcceptedIsWritten, IsLengthFirstOf, HasShortestFloats}
 use Rattle.cbor_rules.specs.declared.settings.Rules.{Rules}
 use Rattle.cbor_rules.specs.declared.settings.KeyOrder.TheVariants.{LengthFirst}
 use Rattle.cbor_rules.specs.Rules.{latest}
@@ -125,7 +125,7 @@ mutual
         ascend = (below_first k ps later.firsts, later.ascend);
       }
 
-pub accepted_is_written : AcceptedIsWritten (defined presets.length_first) IsLengthFirstOf
+pub accepted_is_written : AcceptedIsWritten presets.length_first IsLengthFirstOf
 accepted_is_written bs v short spelt keeps =
     let all = with_keys LengthFirst in
     let r = spelt.item in

@@ -22,13 +22,13 @@ use Rattle.cbor_model.proofs.facts.Maps.{IsBelow-trans, KeysAscend-put_all, Keys
 use Rattle.cbor_forms.specs.LengthFirst.{length_first, all_length_first, encoded, joined, by_length, as_byte_strings}
 use Rattle.cbor_rules.specs.Features.{number, simple_item, float_bits, key, head_end, features, all_features, pair_features}
 use Rattle.cbor_rules.specs.Presets as presets
-use Rattle.cbor_rules.specs.Presets.{WrittenIsAccepted, IsLengthFirstOf, HasShortestFloats, HaveShortestFloats, PairsHaveShortestFloats, defined}
+use Rattle.cbor_rules.specs.Presets.{WrittenIsAccepted, IsLengthFirstOf, HasShortestFloats, HaveShortestFloats, PairsHaveShortestFloats}
 use Rattle.cbor_rules.specs.Rules.{latest, Keeps, only}
 use Rattle.cbor_rules.specs.declared.settings.Rules.{Rules}
 use Rattle.cbor_rules.specs.declared.settings.KeyOrder.TheVariants.{LengthFirst}
 use Rattle.cbor_rules.proofs.Canonical.{IsFine, AreFine, one_item, kept_fine, fine_kept, both_fine, number_fine, key_fine, simple_fine, bool_written, limit-le}
 use Rattle.cbor_rules.proofs.Canonical as canonical
-use Rattle.cbor_rules.proofs.Deterministic.{ApartFloats, with_keys, fine_too, is_all, not_defined, other_fine}
+use Rattle.cbor_rules.proofs.Deterministic.{ApartFloats, with_keys, is_all, other_fine}
 use Rattle.cbor_rules.proofs.Deterministic as deterministic
 use Rattle.cbor_rules.proofs.LengthFirst.{strings, joined_strings, FirstAfter}
 use Rattle.cbor_rules.proofs.Puts.{IsApart, AreApart, count_codes_put, less_apart}
@@ -334,15 +334,9 @@ from_item bs v spelt is one =
     fine_kept all spelt.item (subst (λ (r : Raw). AreFine all (features 0 r)) (sym same) (one.fine 0))
 
 module _ (reads : ReadsBack) (apart : ApartFloats) where
-  pub written_is_defined : WrittenIsAccepted (defined presets.length_first) IsLengthFirstOf
-  written_is_defined bs v short spelt is =
+  pub written_is_accepted : WrittenIsAccepted presets.length_first IsLengthFirstOf
+  written_is_accepted bs v short spelt is =
       let good = subst (λ (v : Val). IsStorable v × IsOrdered v × IsAcceptableWithin max_depth (canonical v)) (sym spelt.valued)
       (value_is_canonical max_depth spelt.item spelt.acceptable (subst (λ (bs : List ℕ). length bs < 2 ^ 64) (sym spelt.spelled) short)) in
       let each = keys_apart reads v good.0 good.1 (in_memory v good.2.fits good.2.texts) good.2.nests in
       from_item bs v spelt is.1 (encodes apart v good.2.fits is.0 each)
-
-  pub written_is_accepted : WrittenIsAccepted presets.length_first IsLengthFirstOf
-  written_is_accepted bs v short spelt is =
-      let kept = kept_fine all spelt.item (written_is_defined bs v short spelt is) in
-      fine_kept presets.length_first spelt.item
-      (fine_too all presets.length_first (not_defined LengthFirst) (features 0 spelt.item) kept)

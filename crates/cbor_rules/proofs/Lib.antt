@@ -8,10 +8,12 @@ pub mod ChunkSteps
 pub mod MetKeys
 pub mod Kept
 pub mod Reading
+pub mod ReadBack
 pub mod CheckedFirst
 pub mod Fronts
 pub mod RawByRules
 pub mod ItemsTaken
+pub mod StreamsTaken
 pub mod Canonical
 pub mod CanonicalKeys
 pub mod Unique

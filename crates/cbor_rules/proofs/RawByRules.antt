@@ -1,5 +1,5 @@
 -- What is taken of a source by rules that are looked at as its bytes come.
-use Rattle.std.proofs.Common.{◌+◌, Ok, IfSome, true, false, Option, ◌≡◌, ◌∙◌, ◌<◌, ◌≤◌, ◌^◌, ℕ, Bool, List, [], ◌++◌, length, take, drop, Some, None, inl, inr, sym, ap, subst, arith, append-nil}
+use Rattle.std.proofs.Common.{◌+◌, Ok, IfSome, true, false, Option, ◌≡◌, ◌≢◌, ◌∙◌, ◌<◌, ◌≤◌, ◌^◌, ℕ, Bool, List, [], ◌∷◌, ◌++◌, length, take, drop, Some, None, inl, inr, refl, sym, ap, subst, arith, append-nil}
 use Rattle.std.proofs.lemmas.List.{length-append, nil_from_length, take-append-drop, take-append-le}
 use Rattle.std.specs.Io.KnownBytes.{Consumes, Keeps}
 use Rattle.std.proofs.Math.Decide.{dec_le}
@@ -16,6 +16,7 @@ use Rattle.cbor_io.specs.declared.error.ErrorCode.{ErrorCode}
 use Rattle.cbor_io.specs.declared.read_error.ReadError.{ReadError}
 use Rattle.cbor_io.specs.ReadError.{error_code, place, why}
 use Rattle.cbor_io.specs.declared.read_error.ReadErrorCode.{ReadErrorCode}
+use Rattle.cbor_io.specs.declared.read_error.ReadErrorCode.TheVariants as reading
 use Rattle.cbor_model.specs.Reader.{Reads}
 use Rattle.cbor_read.specs.Source.{Input, RefusedByte, Stays, TookKept}
 use Rattle.cbor_read.proofs.facts.Sources.{kept_some, some_then}
@@ -30,7 +31,7 @@ use Rattle.cbor_rules.specs.Answers.{IfDeparts, IfUnread}
 use Rattle.cbor_rules.specs.declared.answers.Refusal.{Refusal}
 use Rattle.cbor_rules.specs.declared.answers.Refusal.TheVariants.{Unread, Departs}
 use Rattle.cbor_rules.specs.NextItem.{departure_from}
-use Rattle.cbor_rules.specs.RawByRules.{ReportsDepartureOrFault, GathersByRules, MayBegin, ShowsDeparture}
+use Rattle.cbor_rules.specs.RawByRules.{ReportsDepartureOrFault, GathersByRules, IsSourceFaultBy, MayBegin, ShowsDeparture}
 use Rattle.cbor_rules.specs.Rules.{Terms, first_departure}
 use Rattle.cbor_rules.specs.declared.answers.Departure.{Departure}
 use Rattle.cbor_rules.proofs.Kept.{none_where_kept}
@@ -63,7 +64,7 @@ module _ (levels : ℕ) (front more : List ℕ) (item : Raw) (rest : List ℕ) (
 
 -- bytes that an item takes up are its encoding
 module _ (levels : ℕ) (bytes : List ℕ) (has : HasItem levels bytes (length bytes)) where
-  whole_spelled : bytes ≡ spell has.item
+  pub whole_spelled : bytes ≡ spell has.item
   whole_spelled =
       let begins = has.begins in
       let nothing : has.rest ≡ [] = nil_from_length has.rest (omega (arith, has.ends, ap length begins.spelled, length-append (spell has.item) has.rest)) in
@@ -188,26 +189,55 @@ module _ (s m : Input) (stays : Stays s m) where
     reported = λ bs reports. none.reported bs (reports_on bs reports);
   }
 
+-- what is excused, and isn't lack of memory, is a fault of the source
+not_memory : (Device : Type 0) (w : ReadErrorCode) (at : ℕ) → (w ≢ reading.OutOfMemory) → ExcusedBy Device (error_code w) at → IsSourceFaultBy Device (error_code w) at
+not_memory Device (reading.Io fault) at other by = by
+not_memory Device reading.OutOfMemory at other by = absurd (other refl)
+not_memory Device _ at other by = absurd by
+
 -- a byte that was looked for wasn't had
-pub look_refused : (refusals : ReadErrorCode → Bool) (levels : ℕ) (s m : Input) (q : ReadError) (e : Error) → (code_of e ≡ error_code (why q)) × (offset_of e ≡ place q) → RefusedByte refusals s m q → GathersNone refusals levels s m e
-look_refused refusals levels s m q e is h = record {
-  took = h.refused.moved;
-  reported = λ bs reports.
+module _ (refusals : ReadErrorCode → Bool) (s m : Input) (q : ReadError) (h : RefusedByte refusals s m q) (e : Error) (is : (code_of e ≡ error_code (why q)) × (offset_of e ≡ place q)) where
+  by_device : (P : ErrorCode → ℕ → Type 0) → P (error_code (why q)) (place q) → P (code_of e) (offset_of e)
+  by_device P holds = subst (λ (c : ErrorCode). P c (offset_of e)) (sym is.0) (subst (λ (n : ℕ). P (error_code (why q)) n) (sym is.1) holds)
+
+  excused : (bs : List ℕ) → Reports s bs → ExcusedBy (ReportsIo refusals) (error_code (why q)) (place q)
+  excused bs reports =
       let read : Limits → List ℕ → Reads (Unit {0}) = λ l x. Ok (tt, x) in
       let fails = (byte_refused refusals s m q read h).reported bs reports in
-      let k = error_code (why q) in
-      let by : ExcusedBy (ReportsIo refusals) k (place q) = elim (excused_or (ReportsIo refusals) k (s.offset + length bs) (place q) (Ok (tt, bs)) fails) [
+      elim (excused_or (ReportsIo refusals) (error_code (why q)) (s.offset + length bs) (place q) (Ok (tt, bs)) fails) [
         | inl x ↦ x
         | inr x ↦ let wrong = x.1 in absurd cc
-      ] in
-      inl (subst (λ (c : ErrorCode). ExcusedBy (ReportsIo refusals) c (offset_of e)) (sym is.0) (subst (λ (n : ℕ). ExcusedBy (ReportsIo refusals) k n) (sym is.1) by));
-}
+      ]
+
+  pub look_refused : (levels : ℕ) → GathersNone refusals levels s m e
+  look_refused levels = record {
+    took = h.refused.moved;
+    reported = λ bs reports. inl (by_device (ExcusedBy (ReportsIo refusals)) (excused bs reports));
+  }
+
+  pub look_failed : (bs : List ℕ) → Reports s bs → IsSourceFaultBy (ReportsIo refusals) (code_of e) (offset_of e)
+  look_failed bs reports =
+      by_device (IsSourceFaultBy (ReportsIo refusals)) (not_memory (ReportsIo refusals) (why q) (place q) h.memory (excused bs reports))
 
 -- none is to come
 pub none_to_come : (levels : ℕ) (s : Input) (bs : List ℕ) (item : Raw) (rest : List ℕ) → IfSome s.to_come (λ l. l ≡ []) → Reports s bs → Begins levels bs item rest → ⊥
 none_to_come levels s bs item rest ends reports begins =
     let nothing : bs ≡ [] = subst (λ (o : Option (List ℕ)). IfSome o (λ l. l ≡ [])) reports.is ends in
     none_of_none levels item rest (subst (λ (l : List ℕ). Begins levels l item rest) nothing begins)
+
+-- so that no byte is seen
+pub none_seen : (s : Input) (b : ℕ) → IfSome s.to_come (λ bs. take 1 bs ≡ b ∷ []) → Reports s [] → ⊥
+none_seen s b front reports =
+    let seen : take 1 [] ≡ b ∷ [] = subst (λ (o : Option (List ℕ)). IfSome o (λ bs. take 1 bs ≡ b ∷ [])) reports.is front in
+    absurd cc
+
+-- and no item taken
+pub none_taken : (terms : Terms) (levels : ℕ) (s t : Input) (bytes : List ℕ) → GathersByRules terms levels s t bytes → Reports s [] → ⊥
+none_taken terms levels s t bytes got reports =
+    let took = got.gathered.took in
+    let step = (taken_step s t bytes took.bytes took.count took.room).reported [] reports in
+    let item = got.gathered.item.item in
+    none_of_none levels item step.rest (subst (λ (l : List ℕ). Begins levels l item step.rest) (sym step.holds) (whole_begins levels bytes got.gathered.item step.rest))
 
 -- ---- refusals
 

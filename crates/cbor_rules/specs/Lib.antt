@@ -11,3 +11,4 @@ pub mod Presets
 pub mod Unique
 pub mod Limits
 pub mod RawByRules
+pub mod Streams

@@ -1,22 +1,28 @@
 -- The presets of rules, and what their writers write.
-use Rattle.std.specs.Prelude.{◌≡◌, ℕ, ◌^◌, ◌<◌, true, false, List, [], ◌∷◌, length, None}
-use Rattle.std.specs.Prelude.{refl}
+use Rattle.std.specs.Prelude.{◌≡◌, ℕ, ◌^◌, ◌<◌, ◌≤◌, true, false, List, [], ◌∷◌, length, None}
+use Rattle.std.specs.Prelude.{Result, MatchResult, refl}
 use Rattle.std.specs.Float.{nan}
 use Rattle.std.specs.Float.Ieee.{fits, odd, of_bits, of_fields, to_bits}
 use Rattle.std.specs.declared.cmp.Ordering.TheVariants.{Less}
+use Rattle.cbor_model.specs.Acceptable.{max_depth}
+use Rattle.cbor_model.specs.Canonical as model
 use Rattle.cbor_model.specs.Canonical.{canon, IsStorable}
 use Rattle.cbor_model.specs.InRange.{IsInRange}
 use Rattle.cbor_model.specs.Laws.{SpellsValue}
 use Rattle.cbor_model.specs.Order.{lex}
 use Rattle.cbor_model.specs.Plain.{Val, integer, float, array, map, tag, Vals, no_vals, val}
 use Rattle.cbor_model.specs.Plain.{Pairs, no_pairs, pair}
-use Rattle.cbor_model.specs.Raw.{FloatWidth, half, single}
+use Rattle.cbor_model.specs.Raw.{FloatWidth, half, single, depth}
 use Rattle.cbor_value.specs.Floats.{number, half_number}
 use Rattle.cbor_value.specs.Shortest.{shortest}
+use Rattle.cbor_value.specs.View.{view}
+use Rattle.cbor_value.specs.declared.Value.{Value}
 use Rattle.cbor_forms.specs.LengthFirst as forms
 use Rattle.cbor_forms.specs.Reduced.{integer_of, IsReducedInteger}
 use Rattle.cbor_forms.specs.Shortened.{shortened, reduced, IsReducible}
+use Rattle.cbor_rules.specs.Answers.{IsMemory}
 use Rattle.cbor_rules.specs.Rules.{Keeps, key_cmp, only}
+use Rattle.cbor_rules.specs.declared.answers.Refusal.{Refusal}
 use Rattle.cbor_rules.specs.declared.settings.Rules.{Rules}
 use Rattle.cbor_rules.specs.declared.settings.KeyOrder.TheVariants.{Any, Unique, Bytewise, LengthFirst}
 use Rattle.cbor_rules.specs.declared.settings.KeyOrder.TheVariants.{TypeFirst}
@@ -51,7 +57,8 @@ canonical = record any_item {
   no_undefined = true;
 }
 
--- RFC 8949, section 4.2.1, with one NaN as by section 4.2.2
+-- RFC 8949, section 4.2.1, with one NaN as by section 4.2.2, and nothing undefined, which no value
+-- is written as
 abbrev pub deterministic : Rules
 deterministic = record any_item {
   keys = Bytewise;
@@ -59,29 +66,27 @@ deterministic = record any_item {
   definite_lengths = true;
   shortest_floats = true;
   one_nan = true;
+  no_undefined = true;
 }
 
 -- RFC 8949, section 4.2.3, and RFC 7049, section 3.9
 abbrev pub length_first : Rules
 length_first = record deterministic { keys = LengthFirst }
 
--- CTAP 2.1, section 8
+-- CTAP 2.1, section 8, and nothing undefined
 abbrev pub ctap2 : Rules
 ctap2 = record any_item {
   keys = TypeFirst;
   plain_keys = true;
   shortest_heads = true;
   definite_lengths = true;
+  no_undefined = true;
   no_tags = true;
 }
 
--- these rules, and nothing undefined, which no value is written as
-abbrev pub defined : Rules → Rules
-defined rules = record rules { no_undefined = true }
-
 -- dCBOR (draft-mcnally-deterministic-cbor), but for the normalization of text
 abbrev pub dcbor : Rules
-dcbor = record (defined deterministic) { reduced_numbers = true }
+dcbor = record deterministic { reduced_numbers = true }
 
 -- ---- what is written
 
@@ -185,6 +190,11 @@ WrittenIsAccepted rules P = (bytes : List ℕ) (v : Val) → length bytes < 2 ^ 
 abbrev pub AcceptedIsWritten : Rules → (List ℕ → Val → Type 0) → Type 0
 AcceptedIsWritten rules P = (bytes : List ℕ) (v : Val) → length bytes < 2 ^ 64
     → (spelt : SpellsValue bytes v) → Keeps (only rules) spelt.item → P bytes v
+
+-- What is written of a value, and read by the rules of its form, is this value, unless memory runs
+-- out, where it nests at most 127 levels.
+abbrev pub IsReadBack : Val → Result Value Refusal → Type 0
+IsReadBack v result = depth (model.canonical v) ≤ max_depth → MatchResult result (λ x. view x ≡ v) IsMemory
 
 -- What is written deterministically, or with shorter keys first, has its floats at their shortest.
 abbrev pub ShortenedHasShortestFloats : Type 0

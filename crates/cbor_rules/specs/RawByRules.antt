@@ -5,6 +5,8 @@ use Rattle.cbor_model.specs.Raw.{Raw}
 use Rattle.cbor_model.specs.RawReader.{Begins}
 use Rattle.cbor_model.specs.Spelling.{spell}
 use Rattle.cbor_io.specs.Error.{code_of, offset_of}
+use Rattle.cbor_io.specs.declared.error.ErrorCode.{ErrorCode}
+use Rattle.cbor_io.specs.declared.error.ErrorCode.TheVariants.{Io}
 use Rattle.cbor_io.specs.declared.read_error.ReadErrorCode.{ReadErrorCode}
 use Rattle.cbor_read.specs.Source.{Input, Stays, TookKept}
 use Rattle.cbor_decode.specs.Gives.{ReportsIo}
@@ -53,3 +55,12 @@ ReportsDepartureOrFault refusals start terms item (Unread e) =
     ExcusedBy (ReportsIo refusals) (code_of e) (offset_of e)
 ReportsDepartureOrFault refusals start terms item (Departs d) =
     departure_from start terms item ≡ Some d
+
+-- the source reported a fault, where it can have one
+abbrev pub IsSourceFaultBy : Type 0 → ErrorCode → ℕ → Type 0
+IsSourceFaultBy Device (Io fault) at = Device × (at ≡ 0)
+IsSourceFaultBy Device _ at = ⊥
+
+abbrev pub IsSourceFault : (ReadErrorCode → Bool) → Refusal → Type 0
+IsSourceFault refusals (Unread e) = IsSourceFaultBy (ReportsIo refusals) (code_of e) (offset_of e)
+IsSourceFault refusals (Departs d) = ⊥

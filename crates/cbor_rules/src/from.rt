@@ -41,7 +41,8 @@ use std::alloc::Global;
 /// No memory is taken beyond that of `from_slice`, but under `KeyOrder::Unique` where some map in
 /// the item has a pair: there each map's keys are kept while the map is gone through, as references
 /// to their bytes, and a key that isn't encoded canonically as its value's canonical encoding, which
-/// is no longer than the key. A key is compared with as many as the logarithm of their number.
+/// is no longer than the key, and for which the key is read as a `Value`. A key is compared with as
+/// many as the logarithm of their number.
 ///
 /// ```rust
 /// let numbers: [u8; 2] = from_slice_with(alloc, &[0x82, 0x01, 0x02], Rules::DETERMINISTIC)?;

@@ -1,7 +1,7 @@
 //! Reading items by rules that stand one after the other, or that other bytes follow.
 
-ghost use Rattle.std.specs.Prelude.{◌≡◌, ◌⊎◌, ◌≤◌, ℕ, List, length, true, IfErr, IfOk, IfSome};
-ghost use Rattle.std.specs.Prelude.{MatchResult, OnErr};
+ghost use Rattle.std.specs.Prelude.{◌≡◌, ◌≢◌, ◌⊎◌, ◌≤◌, ℕ, List, [], length, true};
+ghost use Rattle.std.specs.Prelude.{IfErr, IfOk, IfSome, MatchResult, OnErr};
 
 use crate::answers::{Departure, Refusal};
 use crate::front::front;
@@ -117,7 +117,8 @@ impl<'a, 't> RuledItems<'a, 't> {
         // it alone is taken; or there are none.
         ensures found { IfOk result
             (GivesNext (T.reads from_slice_context) (standing self.old) (standing self.new)) }
-        // Nothing is taken of what is refused.
+        // At the end of the slice nothing is refused; and nothing is taken of what is refused.
+        ensures at_end { OnErr result (to_come (standing self.old) ≢ []) }
         ensures stays { OnErr result (standing self.new ≡ standing self.old) }
         // Each such item is read, unless memory runs out.
         ensures accepted { (x : T) (rest : List ℕ)

@@ -10,7 +10,7 @@ ghost use Rattle.cbor_rules.specs.Presets.{any_item, canonical, ctap2, dcbor, de
 ghost use Rattle.cbor_rules.specs.Presets.{length_first, unique_keys};
 ghost use Rattle.cbor_rules.specs.Unique.{UniqueKeysAreKept};
 ghost use Rattle.cbor_rules.specs.Limits.{BytesAreFew, ItemsAreFew, PairsAreFew};
-ghost use Rattle.cbor_rules.specs.Presets.{AcceptedIsWritten, WrittenIsAccepted, defined};
+ghost use Rattle.cbor_rules.specs.Presets.{AcceptedIsWritten, WrittenIsAccepted};
 ghost use Rattle.cbor_rules.specs.Presets.{IsCanonicalOf, IsDeterministicOf, IsLengthFirstOf};
 ghost use Rattle.cbor_rules.specs.Presets.{IsCtap2Of, TypeFirstIsBytewise};
 ghost use Rattle.cbor_rules.specs.Presets.{IsDcborOf, ReducedHasReducedNumbers};
@@ -67,43 +67,40 @@ pub fn canonical_accepted_is_written()
     ensures { AcceptedIsWritten Rules.CANONICAL IsCanonicalOf }
 {}
 
-/// What is written deterministically keeps the deterministic rules, and has nothing undefined.
+/// What is written deterministically keeps the deterministic rules.
 pub fn deterministic_written_is_accepted()
     ensures kept { WrittenIsAccepted Rules.DETERMINISTIC IsDeterministicOf }
-    ensures defined { WrittenIsAccepted (defined Rules.DETERMINISTIC) IsDeterministicOf }
 {
     same_number_same_float();
 }
 
-/// What keeps the deterministic rules and has nothing undefined is written deterministically.
+/// What keeps the deterministic rules is written deterministically.
 pub fn deterministic_accepted_is_written()
-    ensures { AcceptedIsWritten (defined Rules.DETERMINISTIC) IsDeterministicOf }
+    ensures { AcceptedIsWritten Rules.DETERMINISTIC IsDeterministicOf }
 {}
 
-/// What is written with shorter keys first keeps the rules of that form, and has nothing undefined.
+/// What is written with shorter keys first keeps the rules of that form.
 pub fn length_first_written_is_accepted()
     ensures kept { WrittenIsAccepted Rules.LENGTH_FIRST IsLengthFirstOf }
-    ensures defined { WrittenIsAccepted (defined Rules.LENGTH_FIRST) IsLengthFirstOf }
 {
     same_number_same_float();
     length_first_reads_back();
 }
 
-/// What keeps the rules of that form and has nothing undefined is written with shorter keys first.
+/// What keeps the rules of that form is written with shorter keys first.
 pub fn length_first_accepted_is_written()
-    ensures { AcceptedIsWritten (defined Rules.LENGTH_FIRST) IsLengthFirstOf }
+    ensures { AcceptedIsWritten Rules.LENGTH_FIRST IsLengthFirstOf }
 {}
 
 /// What is written canonically, of a value that has no tags and no arrays or maps as keys, keeps
-/// CTAP2's rules, and has nothing undefined.
+/// CTAP2's rules.
 pub fn ctap2_written_is_accepted()
     ensures kept { WrittenIsAccepted Rules.CTAP2 IsCtap2Of }
-    ensures defined { WrittenIsAccepted (defined Rules.CTAP2) IsCtap2Of }
 {}
 
-/// What keeps CTAP2's rules and has nothing undefined is written so.
+/// What keeps CTAP2's rules is written so.
 pub fn ctap2_accepted_is_written()
-    ensures { AcceptedIsWritten (defined Rules.CTAP2) IsCtap2Of }
+    ensures { AcceptedIsWritten Rules.CTAP2 IsCtap2Of }
 {}
 
 /// CTAP2's order of keys is that of their bytes, but for arrays, maps and tags.

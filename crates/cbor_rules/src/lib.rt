@@ -19,8 +19,11 @@ mod keys;
 mod laws;
 mod raw;
 mod settings;
+mod stream;
+mod stream_item;
 mod texts;
 mod walk;
+mod written;
 
 pub use answers::{Departure, Refusal};
 pub use checked::{from_slice_checked, from_slice_checked_with_tags};
@@ -36,3 +39,7 @@ pub use laws::{
 };
 pub use raw::{next_raw_item, next_raw_item_with_tags};
 pub use settings::{KeyOrder, Rule, Rules};
+pub use stream::RuledStream;
+pub use written::{
+    write_and_read_dcbor, write_and_read_deterministic, write_and_read_length_first,
+};

@@ -1,6 +1,6 @@
 //! Taking the bytes of an item that keeps rules, which are looked at while they come.
 
-ghost use Rattle.std.specs.Prelude.{◌≡◌, ◌+◌, ◌^◌, ◌<◌, ◌++◌, ℕ, List, length, None, Some};
+ghost use Rattle.std.specs.Prelude.{◌≡◌, ◌+◌, ◌^◌, ◌<◌, ◌++◌, ℕ, List, [], length, None, Some};
 ghost use Rattle.std.specs.Prelude.{IfErr, IfOk, MatchResult, OnOk};
 ghost use Rattle.cbor_model.specs.Raw.{Raw, IsWellFormed};
 ghost use Rattle.cbor_model.specs.RawReader.{Begins};
@@ -12,7 +12,7 @@ ghost use Rattle.cbor_raw.specs.Gathered.{GathersNone};
 ghost use Rattle.cbor_value.specs.RawBytes.{raw_bytes};
 ghost use Rattle.cbor_rules.specs.Answers.{IfDeparts, IfUnread};
 ghost use Rattle.cbor_rules.specs.NextItem.{departure_from};
-ghost use Rattle.cbor_rules.specs.RawByRules.{GathersByRules, GathersNext, IsItem};
+ghost use Rattle.cbor_rules.specs.RawByRules.{GathersByRules, GathersNext, IsItem, IsSourceFault};
 ghost use Rattle.cbor_rules.specs.RawByRules.{ReportsDepartureOrFault, ShowsDeparture};
 ghost use Rattle.cbor_rules.specs.Rules.{first_departure, only, under};
 
@@ -77,6 +77,9 @@ pub fn next_raw_item<R: Source>(
     // source reported a fault.
     ensures unread { IfErr result (IfUnread (GathersNone R.refusals de.old.decoder.levels
         (R.source de.old.decoder.source) (R.source de.new.decoder.source))) }
+    // At the end of the input it is refused by a fault of the source alone.
+    ensures at_end { Reports (R.source de.old.decoder.source) []
+        → IfErr result (IsSourceFault R.refusals) }
     ensures settings { SameSettings de.old.decoder de.new.decoder }
 {
     next_raw_item_with_tags(de, rules, &[])
@@ -110,6 +113,8 @@ pub fn next_raw_item_with_tags<R: Source>(
         (R.source de.new.decoder.source))) }
     ensures unread { IfErr result (IfUnread (GathersNone R.refusals de.old.decoder.levels
         (R.source de.old.decoder.source) (R.source de.new.decoder.source))) }
+    ensures at_end { Reports (R.source de.old.decoder.source) []
+        → IfErr result (IsSourceFault R.refusals) }
     ensures settings { SameSettings de.old.decoder de.new.decoder }
 {
     match steps::peek(de) {

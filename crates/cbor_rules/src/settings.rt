@@ -143,8 +143,16 @@ impl Rules {
 
     /// The core deterministic encoding (RFC 8949, section 4.2.1): shortest heads and floats,
     /// definite lengths, and keys ascending by their bytes. A NaN is `f9 7e 00`, as section 4.2.2
-    /// has it for protocols that use one NaN. It is what `to_vec_deterministic` writes; undefined
-    /// is read besides, which no value is written as.
+    /// has it for protocols that use one NaN. It is exactly what `to_vec_deterministic` writes.
+    ///
+    /// So undefined is refused, which no value is written as, though section 4.2.1 has it. It is let
+    /// through, and read as null, where that rule is off:
+    ///
+    /// ```rust
+    /// let rules = Rules { no_undefined: false, ..Rules::DETERMINISTIC };
+    /// let value: Value = from_slice_with(alloc, b"\xf7", rules)?;
+    /// assert!(rt; value == Value::Null);
+    /// ```
     pub const DETERMINISTIC: Rules = Rules {
         keys: KeyOrder::Bytewise,
         plain_keys: false,
@@ -153,15 +161,15 @@ impl Rules {
         reduced_numbers: false,
         shortest_floats: true,
         one_nan: true,
-        no_undefined: false,
+        no_undefined: true,
         no_tags: false,
         most_items: None,
         most_pairs: None,
         most_bytes: None,
     };
 
-    /// The deterministic encoding with shorter keys first (RFC 8949, section 4.2.3). It is what
-    /// `to_vec_length_first` writes; undefined is read besides.
+    /// The deterministic encoding with shorter keys first (RFC 8949, section 4.2.3). It is exactly
+    /// what `to_vec_length_first` writes, so that undefined is refused.
     pub const LENGTH_FIRST: Rules = Rules {
         keys: KeyOrder::LengthFirst,
         plain_keys: false,
@@ -170,7 +178,7 @@ impl Rules {
         reduced_numbers: false,
         shortest_floats: true,
         one_nan: true,
-        no_undefined: false,
+        no_undefined: true,
         no_tags: false,
         most_items: None,
         most_pairs: None,
@@ -180,9 +188,9 @@ impl Rules {
     /// The canonical form of CTAP2 (CTAP 2.1, section 8): shortest heads, definite lengths, keys
     /// ascending by type, length and bytes, floats in the width that they have, and no tags. No key
     /// is an array or a map, which CTAP2 doesn't use as such; of others its order is that of the
-    /// bytes, so that `to_vec_canonical` writes this form of a value without tags and without such
-    /// keys (law `ctap2_written_is_accepted`); undefined is read besides. That CTAP2 nests four
-    /// levels at the most is none of these rules.
+    /// bytes, so that this is exactly what `to_vec_canonical` writes of a value without tags and
+    /// without such keys (laws `ctap2_written_is_accepted`, `ctap2_accepted_is_written`); undefined
+    /// is refused. That CTAP2 nests four levels at the most is none of these rules.
     pub const CTAP2: Rules = Rules {
         keys: KeyOrder::TypeFirst,
         plain_keys: true,
@@ -191,7 +199,7 @@ impl Rules {
         reduced_numbers: false,
         shortest_floats: false,
         one_nan: false,
-        no_undefined: false,
+        no_undefined: true,
         no_tags: true,
         most_items: None,
         most_pairs: None,

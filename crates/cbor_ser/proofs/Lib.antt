@@ -8,6 +8,7 @@ pub mod WriteSteps
 pub mod WrittenHeads
 pub mod Users
 pub mod Named
+pub mod Keyed
 pub mod Lists
 pub mod Values
 pub mod facts

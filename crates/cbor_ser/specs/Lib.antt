@@ -5,6 +5,7 @@ pub mod Serialized
 pub mod Collections
 pub mod Documents
 pub mod PartLists
+pub mod Labels
 pub mod OneOfs
 pub use Rattle.cbor_io.specs.Error
 pub use Rattle.cbor_value.specs.View

@@ -1,20 +1,22 @@
 //! Structs and enums that are written from tuples of references.
 
-ghost use Rattle.std.specs.Prelude.{◌≡◌, ◌<◌, length, map};
+ghost use Rattle.std.specs.Prelude.{◌≡◌, ◌<◌};
 ghost use Rattle.cbor_model.specs.Document.{structure, unit_variant, newtype_variant};
 ghost use Rattle.cbor_model.specs.Document.{tuple_variant, struct_variant};
 ghost use Rattle.cbor_model.specs.Parts.{item};
+ghost use Rattle.cbor_ser.specs.Labels.{keyed_document, labelled};
 ghost use Rattle.cbor_ser.specs.PartLists.{name_in};
 ghost use Rattle.cbor_ser.specs.Serialized.{Serialized, Stepped};
 
 use crate::fields::SerializeFields;
 use crate::items::{WriteDone, answer};
+use crate::keys::{ByLabels, ByNames, SerializeKeys};
 use crate::serialize::Serialize;
 use crate::serializer::Serializer;
 use crate::tuples::SerializeTuple;
 use cbor_io::error::{Error, Result};
 use cbor_io::write::Write;
-use cbor_parts::{FieldNames, Newtype, Schema, Tuple};
+use cbor_parts::{FieldLabels, FieldNames, Labelled, Newtype, Schema, Tuple};
 
 /// The content of a variant, to be written: `()`, [`Newtype`] of a reference, [`Tuple`] of a tuple
 /// of references, or [`NamedFields`].
@@ -105,7 +107,9 @@ impl<N: FieldNames, F: SerializeFields> SerializeVariant for NamedFields<N, F> {
     ) -> Result<()> {
         ser.write_struct_head(number, name, self.1.len())?;
         let mut refusal = None;
-        let done = self.1.serialize_as_fields(ser, N::names(), &mut refusal);
+        let done = self
+            .1
+            .serialize_as_fields(ser, ByNames(N::names()), &mut refusal);
         answer(done, refusal)
     }
 }
@@ -134,24 +138,72 @@ impl<W: Write> Serializer<W> {
             (item (structure (F.fields T.names fields.now))) self.new result }
     {
         let mut refusal = None;
-        let done = self.fields_step(fields, T::names(), &mut refusal);
+        let done = self.fields_step(fields, ByNames(T::names()), &mut refusal);
         answer(done, refusal)
     }
 
-    // Appends the map of these fields, by these names or their numbers.
-    fn fields_step<F: SerializeFields>(
+    /// Writes a struct of these fields, whose keys are the labels that its description gives, packed
+    /// or not. An [`OptionalField`](crate::OptionalField) that is None is left out.
+    ///
+    /// ```rust
+    /// const SYMMETRIC: &[i64] = &[-1, 1, 3]; // a key of COSE (RFC 9053, section 7.3)
+    ///
+    /// struct SymmetricLabels;
+    ///
+    /// impl FieldLabels for SymmetricLabels {
+    ///     type Parts = (ByteBuf, i64, Optional<i64>);
+    ///
+    ///     ghost labels = { SYMMETRIC.now };
+    ///
+    ///     fn labels() -> &'static [i64] {
+    ///         SYMMETRIC
+    ///     }
+    /// }
+    ///
+    /// // whose `Schema` has the parts `Labelled<SymmetricLabels>`
+    /// impl Serialize for SymmetricKey {
+    ///     ghost document = { ⟦<Self as WrittenBy<<Self as Schema>::Parts>>⟧.document };
+    ///
+    ///     fn serialize<W: Write>(&self, ser: &mut Serializer<W>) -> Result<()> {
+    ///         ser.serialize_labelled(self, &(&self.k, &self.kty, OptionalField(&self.alg)))
+    ///     }
+    /// }
+    ///
+    /// let key = SymmetricKey { k: ByteBuf::from(vec![in alloc; 0x66, 0x84]?), kty: 4, alg: None };
+    /// assert_eq!(rt; to_vec(alloc, &key)?.as_slice(), b"\xa2\x20\x42\x66\x84\x01\x04".as_slice());
+    /// ```
+    pub fn serialize_labelled<L: FieldLabels, T: Schema<Parts = Labelled<L>>, F: SerializeFields>(
+        &mut self,
+        _of: &T,
+        fields: &F,
+    ) -> Result<()>
+        requires { F.count ≡ L.Parts.count }
+        ensures { Serialized W.written W.refuses W.references W.capacity self.old
+            (item (labelled L.labels (F.fields T.names fields.now))) self.new result }
+    {
+        let mut refusal = None;
+        let keys = ByLabels {
+            names: T::names(),
+            labels: L::labels(),
+        };
+        let done = self.fields_step(fields, keys, &mut refusal);
+        answer(done, refusal)
+    }
+
+    // Appends the map of these fields, by these keys.
+    fn fields_step<F: SerializeFields, K: SerializeKeys>(
         &mut self,
         fields: &F,
-        names: &[&str],
+        keys: K,
         refusal: &mut Option<Error>,
     ) -> WriteDone
-        requires { length names.now ≡ F.count }
+        requires { K.count keys ≡ F.count }
         ensures { Stepped W.written W.refuses W.references W.capacity self.old
-            (item (structure (F.fields (map (λ n. n.now) names.now) fields.now))) self.new result
-            refusal.new }
+            (item (keyed_document (K.labels keys) (F.fields (K.names keys) fields.now)))
+            self.new result refusal.new }
     {
         self.map_step(fields.len(), refusal)?;
-        fields.serialize_as_fields(self, names, refusal)
+        fields.serialize_as_fields(self, keys, refusal)
     }
 
     /// Writes a variant of an enum, by its number among those that the enum's description names.

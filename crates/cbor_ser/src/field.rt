@@ -2,7 +2,7 @@
 
 ghost use Rattle.std.specs.Prelude.{◌≡◌, IfSome, IfNone, IsOk};
 ghost use Rattle.std.specs.Option.{is_some};
-ghost use Rattle.cbor_model.specs.Parts.{field_part};
+ghost use Rattle.cbor_model.specs.Parts.{item};
 ghost use Rattle.cbor_ser.specs.Serialized.{Stepped};
 
 use crate::items::WriteDone;
@@ -23,18 +23,16 @@ pub trait SerializeField {
     fn is_written(&self) -> bool
         ensures { result ≡ is_some (document self.now) };
 
-    /// Appends the field, by this name or this number, and leaves an error in `refusal`. One that is
+    /// Appends what the field holds, behind its key, and leaves an error in `refusal`. One that is
     /// left out isn't written, and the serializer is left as it was.
-    fn serialize_as_field<W: Write>(
+    fn serialize_content<W: Write>(
         &self,
         ser: &mut Serializer<W>,
-        number: u32,
-        name: &str,
         refusal: &mut Option<Error>,
     ) -> WriteDone
         ensures written { IfSome (document self.now) (λ d.
-            Stepped W.written W.refuses W.references W.capacity ser.old
-            (field_part number name.now d) ser.new result refusal.new) }
+            Stepped W.written W.refuses W.references W.capacity ser.old (item d) ser.new result
+            refusal.new) }
         ensures left_out { IfNone (document self.now) (IsOk result × (ser.new ≡ ser.old)) };
 }
 
@@ -47,14 +45,12 @@ impl<'a, T: Serialize> SerializeField for &'a T {
         true
     }
 
-    fn serialize_as_field<W: Write>(
+    fn serialize_content<W: Write>(
         &self,
         ser: &mut Serializer<W>,
-        number: u32,
-        name: &str,
         refusal: &mut Option<Error>,
     ) -> WriteDone {
-        ser.field_step(number, name, *self, refusal)
+        (*self).serialize_step(ser, refusal)
     }
 }
 
@@ -81,15 +77,13 @@ impl<'a, T: Serialize> SerializeField for OptionalField<'a, T> {
         self.0.is_some()
     }
 
-    fn serialize_as_field<W: Write>(
+    fn serialize_content<W: Write>(
         &self,
         ser: &mut Serializer<W>,
-        number: u32,
-        name: &str,
         refusal: &mut Option<Error>,
     ) -> WriteDone {
         match self.0 {
-            Some(value) => ser.field_step(number, name, value, refusal),
+            Some(value) => value.serialize_step(ser, refusal),
             None => Ok(()),
         }
     }

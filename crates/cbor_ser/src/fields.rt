@@ -1,13 +1,14 @@
 //! Tuples of fields, of which structs are written.
 
-ghost use Rattle.std.specs.Prelude.{◌≡◌, length, map};
+ghost use Rattle.std.specs.Prelude.{◌≡◌};
 ghost use Rattle.cbor_model.specs.Document.{field_count, no_fields};
-ghost use Rattle.cbor_model.specs.Parts as part;
+ghost use Rattle.cbor_ser.specs.Labels.{keyed_fields};
 ghost use Rattle.cbor_ser.specs.PartLists.{field_if, name_in};
 ghost use Rattle.cbor_ser.specs.Serialized.{Stepped};
 
 use crate::field::SerializeField;
 use crate::items::WriteDone;
+use crate::keys::SerializeKeys;
 use crate::part_list::WriteFields;
 use crate::serializer::Serializer;
 use cbor_io::error::Error;
@@ -31,17 +32,18 @@ pub trait SerializeFields {
     fn len(&self) -> usize
         ensures { (ns : List (List ℕ)) → result ≡ field_count (fields ns self.now) };
 
-    /// Appends those that are written, by these names or their numbers, without the map's head, and
-    /// leaves an error in `refusal`.
-    fn serialize_as_fields<W: Write>(
+    /// Appends those that are written, without the map's head, and leaves an error in `refusal`:
+    /// by their labels where there are labels, and else by their names, or their numbers where the
+    /// format is packed.
+    fn serialize_as_fields<W: Write, S: SerializeKeys>(
         &self,
         ser: &mut Serializer<W>,
-        names: &[&str],
+        keys: S,
         refusal: &mut Option<Error>,
     ) -> WriteDone
-        requires { length names.now ≡ count }
+        requires { S.count keys ≡ count }
         ensures { Stepped W.written W.refuses W.references W.capacity ser.old
-            (part.fields (fields (map (λ n. n.now) names.now) self.now)) ser.new result
+            (keyed_fields (S.labels keys) (fields (S.names keys) self.now)) ser.new result
             refusal.new };
 }
 
@@ -56,14 +58,14 @@ impl<A: SerializeField> SerializeFields for (A,) {
         fields.written()
     }
 
-    fn serialize_as_fields<W: Write>(
+    fn serialize_as_fields<W: Write, S: SerializeKeys>(
         &self,
         ser: &mut Serializer<W>,
-        names: &[&str],
+        keys: S,
         refusal: &mut Option<Error>,
     ) -> WriteDone {
         let fields = (&self.0, ());
-        fields.write_fields(ser, 0, names, refusal)
+        fields.write_fields(ser, keys, 0, refusal)
     }
 }
 
@@ -79,14 +81,14 @@ impl<A: SerializeField, B: SerializeField> SerializeFields for (A, B) {
         fields.written()
     }
 
-    fn serialize_as_fields<W: Write>(
+    fn serialize_as_fields<W: Write, S: SerializeKeys>(
         &self,
         ser: &mut Serializer<W>,
-        names: &[&str],
+        keys: S,
         refusal: &mut Option<Error>,
     ) -> WriteDone {
         let fields = (&self.0, (&self.1, ()));
-        fields.write_fields(ser, 0, names, refusal)
+        fields.write_fields(ser, keys, 0, refusal)
     }
 }
 
@@ -103,14 +105,14 @@ impl<A: SerializeField, B: SerializeField, C: SerializeField> SerializeFields fo
         fields.written()
     }
 
-    fn serialize_as_fields<W: Write>(
+    fn serialize_as_fields<W: Write, S: SerializeKeys>(
         &self,
         ser: &mut Serializer<W>,
-        names: &[&str],
+        keys: S,
         refusal: &mut Option<Error>,
     ) -> WriteDone {
         let fields = (&self.0, (&self.1, (&self.2, ())));
-        fields.write_fields(ser, 0, names, refusal)
+        fields.write_fields(ser, keys, 0, refusal)
     }
 }
 
@@ -129,14 +131,14 @@ impl<A: SerializeField, B: SerializeField, C: SerializeField, D: SerializeField>
         fields.written()
     }
 
-    fn serialize_as_fields<W: Write>(
+    fn serialize_as_fields<W: Write, S: SerializeKeys>(
         &self,
         ser: &mut Serializer<W>,
-        names: &[&str],
+        keys: S,
         refusal: &mut Option<Error>,
     ) -> WriteDone {
         let fields = (&self.0, &self.1, &self.2, &self.3, ());
-        fields.write_fields(ser, 0, names, refusal)
+        fields.write_fields(ser, keys, 0, refusal)
     }
 }
 
@@ -161,14 +163,14 @@ impl<
         fields.written()
     }
 
-    fn serialize_as_fields<W: Write>(
+    fn serialize_as_fields<W: Write, S: SerializeKeys>(
         &self,
         ser: &mut Serializer<W>,
-        names: &[&str],
+        keys: S,
         refusal: &mut Option<Error>,
     ) -> WriteDone {
         let fields = (&self.0, &self.1, &self.2, &self.3, (&self.4, ()));
-        fields.write_fields(ser, 0, names, refusal)
+        fields.write_fields(ser, keys, 0, refusal)
     }
 }
 
@@ -195,13 +197,13 @@ impl<
         fields.written()
     }
 
-    fn serialize_as_fields<W: Write>(
+    fn serialize_as_fields<W: Write, S: SerializeKeys>(
         &self,
         ser: &mut Serializer<W>,
-        names: &[&str],
+        keys: S,
         refusal: &mut Option<Error>,
     ) -> WriteDone {
         let fields = (&self.0, &self.1, &self.2, &self.3, (&self.4, (&self.5, ())));
-        fields.write_fields(ser, 0, names, refusal)
+        fields.write_fields(ser, keys, 0, refusal)
     }
 }

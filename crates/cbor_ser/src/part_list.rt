@@ -2,16 +2,17 @@
 //! written.
 
 ghost use Rattle.std.specs.Prelude.{◌≡◌, ◌+◌, ◌^◌, ◌<◌, ◌≤◌, ℕ};
-ghost use Rattle.std.specs.Prelude.{List, length, map, Some, OnErr, OnOk};
+ghost use Rattle.std.specs.Prelude.{List, Some, OnErr, OnOk};
 ghost use Rattle.std.specs.Option.{IsSomeAnd};
 ghost use Rattle.cbor_model.specs.Document.{no_docs, doc, no_fields, field_count};
 ghost use Rattle.cbor_model.specs.Parts.{items, ending};
-ghost use Rattle.cbor_model.specs.Parts as part;
+ghost use Rattle.cbor_ser.specs.Labels.{keyed_fields};
 ghost use Rattle.cbor_ser.specs.PartLists.{field_if};
 ghost use Rattle.cbor_ser.specs.Serialized.{Serialized, Stepped, Stopped};
 
 use crate::field::SerializeField;
 use crate::items::{WriteDone, WriteRefused, answer};
+use crate::keys::SerializeKeys;
 use crate::serialize::Serialize;
 use crate::serializer::Serializer;
 use cbor_io::error::{Error, Result};
@@ -27,7 +28,7 @@ pub(crate) trait WriteFields {
     // How many they are.
     ghost slots: { ℕ };
 
-    // What they are written as, by these names, with the numbers from this one on.
+    // What they are written as, by these names, from the number and the name in this place on.
     ghost fields_from: { ℕ → List (List ℕ) → Self → Fields };
 
     // How many of them are written.
@@ -37,18 +38,18 @@ pub(crate) trait WriteFields {
             ≡ field_count (fields_from i ns self.now) }
         ensures few { result ≤ slots };
 
-    // Appends those that are written, with the numbers from this one on, by their names.
-    fn write_fields<W: Write>(
+    // Appends those that are written, by the keys from the one in this place on.
+    fn write_fields<W: Write, K: SerializeKeys>(
         &self,
         ser: &mut Serializer<W>,
+        keys: K,
         number: u32,
-        names: &[&str],
         refusal: &mut Option<Error>,
     ) -> WriteDone
-        requires as_many { length names.now ≡ slots }
-        requires numbers { number + length names.now < 2 ^ 32 }
+        requires as_many { number + slots ≡ K.count keys }
+        requires numbers { number + slots < 2 ^ 32 }
         ensures { Stepped W.written W.refuses W.references W.capacity ser.old
-            (part.fields (fields_from number (map (λ n. n.now) names.now) self.now))
+            (keyed_fields (K.labels keys) (fields_from number (K.names keys) self.now))
             ser.new result refusal.new };
 }
 
@@ -61,11 +62,11 @@ impl WriteFields for () {
         0
     }
 
-    fn write_fields<W: Write>(
+    fn write_fields<W: Write, K: SerializeKeys>(
         &self,
         _ser: &mut Serializer<W>,
+        _keys: K,
         _number: u32,
-        _names: &[&str],
         _refusal: &mut Option<Error>,
     ) -> WriteDone {
         Ok(())
@@ -74,12 +75,12 @@ impl WriteFields for () {
 
 impl<'a, A: SerializeField, F: WriteFields> WriteFields for (&'a A, F) {
     ghost use Rattle.std.specs.Prelude.{◌+◌, suc};
-    ghost use Rattle.cbor_ser.specs.PartLists.{first_name, other_names};
+    ghost use Rattle.cbor_ser.specs.PartLists.{name_in};
 
     ghost slots = { F.slots + 1 };
 
-    ghost fields_from = { λ i ns p. field_if i (first_name ns) (A.document p.0.now)
-        (F.fields_from (suc i) (other_names ns) p.1) };
+    ghost fields_from = { λ i ns p. field_if i (name_in ns i) (A.document p.0.now)
+        (F.fields_from (suc i) ns p.1) };
 
     fn written(&self) -> usize {
         let others = self.1.written();
@@ -89,18 +90,18 @@ impl<'a, A: SerializeField, F: WriteFields> WriteFields for (&'a A, F) {
         others + 1
     }
 
-    fn write_fields<W: Write>(
+    fn write_fields<W: Write, K: SerializeKeys>(
         &self,
         ser: &mut Serializer<W>,
+        keys: K,
         number: u32,
-        names: &[&str],
         refusal: &mut Option<Error>,
     ) -> WriteDone {
         if !self.0.is_written() {
-            return self.1.write_fields(ser, number + 1, &names[1..], refusal);
+            return self.1.write_fields(ser, keys, number + 1, refusal);
         }
-        self.0.serialize_as_field(ser, number, names[0], refusal)?;
-        self.1.write_fields(ser, number + 1, &names[1..], refusal)
+        keys.serialize_keyed(ser, number, self.0, refusal)?;
+        self.1.write_fields(ser, keys, number + 1, refusal)
     }
 }
 
@@ -113,14 +114,14 @@ impl<'a, F: WriteFields> WriteFields for &'a F {
         (**self).written()
     }
 
-    fn write_fields<W: Write>(
+    fn write_fields<W: Write, K: SerializeKeys>(
         &self,
         ser: &mut Serializer<W>,
+        keys: K,
         number: u32,
-        names: &[&str],
         refusal: &mut Option<Error>,
     ) -> WriteDone {
-        (**self).write_fields(ser, number, names, refusal)
+        (**self).write_fields(ser, keys, number, refusal)
     }
 }
 
@@ -133,32 +134,31 @@ impl<
     F: WriteFields,
 > WriteFields for (&'a A, &'a B, &'a C, &'a D, F) {
     ghost use Rattle.std.specs.Prelude.{◌+◌, suc};
-    ghost use Rattle.cbor_ser.specs.PartLists.{name_in, other_names};
+    ghost use Rattle.cbor_ser.specs.PartLists.{name_in};
 
     ghost slots = { F.slots + 1 + 1 + 1 + 1 };
 
     ghost fields_from = { λ i ns p.
-        field_if i (name_in ns 0) (A.document p.0.now)
-        (field_if (suc i) (name_in ns 1) (B.document p.1.now)
-        (field_if (suc (suc i)) (name_in ns 2) (C.document p.2.now)
-        (field_if (suc (suc (suc i))) (name_in ns 3) (D.document p.3.now)
-        (F.fields_from (suc (suc (suc (suc i))))
-        (other_names (other_names (other_names (other_names ns)))) p.4)))) };
+        field_if i (name_in ns i) (A.document p.0.now)
+        (field_if (suc i) (name_in ns (suc i)) (B.document p.1.now)
+        (field_if (suc (suc i)) (name_in ns (suc (suc i))) (C.document p.2.now)
+        (field_if (suc (suc (suc i))) (name_in ns (suc (suc (suc i)))) (D.document p.3.now)
+        (F.fields_from (suc (suc (suc (suc i)))) ns p.4)))) };
 
     fn written(&self) -> usize {
         let fields = (self.0, (self.1, (self.2, (self.3, &self.4))));
         fields.written()
     }
 
-    fn write_fields<W: Write>(
+    fn write_fields<W: Write, K: SerializeKeys>(
         &self,
         ser: &mut Serializer<W>,
+        keys: K,
         number: u32,
-        names: &[&str],
         refusal: &mut Option<Error>,
     ) -> WriteDone {
         let fields = (self.0, (self.1, (self.2, (self.3, &self.4))));
-        fields.write_fields(ser, number, names, refusal)
+        fields.write_fields(ser, keys, number, refusal)
     }
 }
 

@@ -3,12 +3,13 @@
 ghost use Rattle.cbor_model.specs.Document.{structure};
 ghost use Rattle.cbor_model.specs.Document.{unit_variant, newtype_variant, tuple_variant};
 ghost use Rattle.cbor_model.specs.Document.{struct_variant};
+ghost use Rattle.cbor_ser.specs.Labels.{labelled};
 
 use crate::serialize::Serialize;
 use crate::tuple_documents::{FieldsDocument, TupleDocuments};
 use cbor_parts::{
-    AtMostTwelveParts, FieldNames, Newtype, OneOf1, OneOf2, OneOf3, OneOf4, OneOf5, OneOf6, OneOf7,
-    OneOf8, Schema, Struct, Tuple,
+    AtMostTwelveParts, FieldLabels, FieldNames, Labelled, Newtype, OneOf1, OneOf2, OneOf3, OneOf4,
+    OneOf5, OneOf6, OneOf7, OneOf8, Schema, Struct, Tuple,
 };
 
 /// A variant that has a document.
@@ -72,6 +73,14 @@ impl<P: PartsDocument + AtMostTwelveParts, T: Schema<Parts = P>> WrittenBy<P> fo
 
 impl<F: FieldsDocument> PartsDocument for F {
     ghost document = { λ names p. structure (F.fields names p) };
+}
+
+/// The keys of a struct are its labels.
+impl<L: FieldLabels> PartsDocument for Labelled<L>
+where
+    L::Parts: FieldsDocument,
+{
+    ghost document = { λ names p. labelled L.labels (L.Parts.fields names p.0) };
 }
 
 /// A struct is written as its one part.

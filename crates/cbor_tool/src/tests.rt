@@ -309,16 +309,16 @@ fn answers_by_rules(alloc: Global, preset: Preset, input: &[u8]) -> Result<Vec<u
 const FORMS: &[u8] = b"a218640020F6\na220F6186400\nfb3ff8000000000000\na18000\nc100\nf7\n62\n8\n";
 
 const BY_DETERMINISTIC: &[u8] = b"a218640020f6\nerror: key out of order at offset 5\n\
-    error: float not the shortest at offset 9\na18000\nc100\nf7\n\
+    error: float not the shortest at offset 9\na18000\nc100\nerror: undefined at offset 1\n\
     error: EOF while parsing a value at offset 1\nerror: not hexadecimal\n";
 
 const BY_LENGTH_FIRST: &[u8] = b"error: key out of order at offset 5\na220f6186400\n\
-    error: float not the shortest at offset 9\na18000\nc100\nf7\n\
+    error: float not the shortest at offset 9\na18000\nc100\nerror: undefined at offset 1\n\
     error: EOF while parsing a value at offset 1\nerror: not hexadecimal\n";
 
 const BY_CTAP2: &[u8] = b"a218640020f6\nerror: key out of order at offset 5\n\
     fb3ff8000000000000\nerror: array, map or tag as a key at offset 2\n\
-    error: tag not allowed at offset 1\nf7\n\
+    error: tag not allowed at offset 1\nerror: undefined at offset 1\n\
     error: EOF while parsing a value at offset 1\nerror: not hexadecimal\n";
 
 const BY_DCBOR: &[u8] = b"a218640020f6\nerror: key out of order at offset 5\n\

@@ -3,7 +3,7 @@
 ghost use Rattle.std.specs.Prelude.{◌≡◌, ◌+◌, ◌^◌, ◌<◌, ◌≤◌, length, take, IfErr, OnOk};
 ghost use Rattle.std.specs.Io.KnownBytes.{Appends, Keeps};
 
-use crate::send::send;
+use crate::send::{PieceRefused, send};
 use cbor_io::error::{Error, Result};
 use cbor_io::write::Write;
 use std::io;
@@ -28,9 +28,6 @@ pub(super) struct Blocks<'a, W> {
     ghost ordered: { from ≤ held },
     ghost within: { held ≤ 1024 },
 }
-
-// A piece was refused, for the fault that is left in the sink.
-struct Refused;
 
 impl<'a, W: io::Write> Blocks<'a, W> {
     ghost use Rattle.std.specs.Prelude.{[]};
@@ -117,7 +114,7 @@ impl<'a, W: io::Write> Blocks<'a, W> {
     // room clears a place for it.
     #[cold]
     #[inline(never)]
-    fn write_past_block(&mut self, piece: &[u8]) -> std::result::Result<(), Refused>
+    fn write_past_block(&mut self, piece: &[u8]) -> std::result::Result<(), PieceRefused>
         ensures given { Wrote (given_to W.contents self.old) piece.now
             (given_to W.contents self.new) result }
         ensures same_reference { reference_of self.new ≡ reference_of self.old }
@@ -126,7 +123,7 @@ impl<'a, W: io::Write> Blocks<'a, W> {
             Ok(()) => Ok(()),
             Err(fault) => {
                 self.fault = fault;
-                Err(Refused)
+                Err(PieceRefused)
             }
         }
     }
@@ -148,7 +145,7 @@ impl<W: io::Write> Write for Blocks<'_, W> {
         if BLOCK - self.held < buf.len() {
             return match self.write_past_block(buf) {
                 Ok(()) => Ok(()),
-                Err(Refused) => Err(Error::from(self.fault)),
+                Err(PieceRefused) => Err(Error::from(self.fault)),
             };
         }
         self.hold(buf);

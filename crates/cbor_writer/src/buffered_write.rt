@@ -4,7 +4,7 @@ ghost use Rattle.std.specs.Prelude.{◌≡◌, ◌+◌, ◌≤◌, [], length, t
 ghost use Rattle.std.specs.Prelude.{IfOk, IfErr, OnOk, vec_len};
 ghost use Rattle.std.specs.Io.KnownBytes.{append_known, Appends, Keeps};
 
-use crate::send::send;
+use crate::send::{PieceRefused, send};
 use cbor_io::error::{Error, Result};
 use cbor_io::write::Write;
 use std::alloc::Global;
@@ -47,9 +47,6 @@ pub struct BufferedWrite<W> {
     ghost ordered: { sent ≤ held },
     ghost within: { held ≤ vec_len block },
 }
-
-// A piece was refused, for the fault that is left in the sink.
-struct Refused;
 
 impl<W: io::Write> BufferedWrite<W> {
     ghost use Rattle.cbor_io.specs.Error.{IsOutOfMemory};
@@ -187,7 +184,7 @@ impl<W: io::Write> BufferedWrite<W> {
     // room clears a place for it.
     #[cold]
     #[inline(never)]
-    fn write_past_block(&mut self, piece: &[u8]) -> std::result::Result<(), Refused>
+    fn write_past_block(&mut self, piece: &[u8]) -> std::result::Result<(), PieceRefused>
         ensures { Wrote (buffered_contents W.contents self.old) piece.now
             (buffered_contents W.contents self.new) result }
     {
@@ -195,7 +192,7 @@ impl<W: io::Write> BufferedWrite<W> {
             Ok(()) => Ok(()),
             Err(fault) => {
                 self.fault = fault;
-                Err(Refused)
+                Err(PieceRefused)
             }
         }
     }
@@ -214,7 +211,7 @@ impl<W: io::Write> Write for BufferedWrite<W> {
         if self.block.len() - self.held < buf.len() {
             return match self.write_past_block(buf) {
                 Ok(()) => Ok(()),
-                Err(Refused) => Err(Error::from(self.fault)),
+                Err(PieceRefused) => Err(Error::from(self.fault)),
             };
         }
         self.hold(buf);

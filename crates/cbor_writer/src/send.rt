@@ -6,6 +6,9 @@ ghost use Rattle.std.specs.Io.KnownBytes.{Appends};
 use std::io;
 use std::io::ErrorKind;
 
+/// A sink refused a piece, for the fault that is left in the sink.
+pub(super) struct PieceRefused;
+
 // Writes bytes until all are written or a write fails, and returns how many were, behind so many
 // before. An interrupted write is tried again.
 pub(super) fn send<W: io::Write>(

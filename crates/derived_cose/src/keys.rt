@@ -87,3 +87,32 @@ pub struct SymmetricKey {
     #[serde(rename = "3")]
     pub alg: Algorithm,
 }
+
+/// A key of an elliptic curve with its secret part, for any algorithm (RFC 8152, section 13.1.1).
+/// Its labels ascend by their bytes.
+#[derive(Debug, Drop, Serialize, Deserialize)]
+pub struct PrivateKey {
+    #[serde(rename = "1")]
+    pub kty: KeyType,
+    #[serde(rename = "2", with = "cbor_serde::bytes")]
+    pub kid: Vec<u8>,
+    #[serde(rename = "-1")]
+    pub crv: Curve,
+    #[serde(rename = "-2", with = "cbor_serde::bytes")]
+    pub x: Vec<u8>,
+    #[serde(rename = "-3", with = "cbor_serde::bytes")]
+    pub y: Vec<u8>,
+    #[serde(rename = "-4", with = "cbor_serde::bytes")]
+    pub d: Vec<u8>,
+}
+
+/// A secret that both sides have, for any algorithm (RFC 8152, section 13.3). Its labels ascend.
+#[derive(Debug, Drop, Serialize, Deserialize)]
+pub struct SharedKey {
+    #[serde(rename = "1")]
+    pub kty: KeyType,
+    #[serde(rename = "2", with = "cbor_serde::bytes")]
+    pub kid: Vec<u8>,
+    #[serde(rename = "-1", with = "cbor_serde::bytes")]
+    pub k: Vec<u8>,
+}

@@ -6,5 +6,7 @@ mod keys;
 mod messages;
 
 pub use answers::{Info, InfoOptions, Octets, Packed, PackedStatement};
-pub use keys::{Algorithm, Curve, KeyType, PublicKey, SigningKey, SymmetricKey};
-pub use messages::{Headers, Protected, Sign1, Sign1Parts};
+pub use keys::{
+    Algorithm, Curve, KeyType, PrivateKey, PublicKey, SharedKey, SigningKey, SymmetricKey,
+};
+pub use messages::{Encrypt0, Headers, Mac0, OpenHeaders, Protected, Sign1, Sign1Parts};

@@ -37,6 +37,13 @@ pub struct Claims<'a> {
     pub cti: Vec<u8>,
 }
 
+/// One of these, whose time has a fraction of a second (RFC 8392, sections 2 and 3.1.6).
+#[derive(Debug, Drop, Serialize, Deserialize)]
+pub struct Issued {
+    #[serde(rename = "6")]
+    pub iat: f64,
+}
+
 /// An attestation object (Web Authentication, section 6.5.4).
 #[derive(Debug, Drop, Serialize, Deserialize)]
 pub struct Attestation<'a> {

@@ -7,11 +7,12 @@ use derived_attributes::{
     Cache, Command, Id, Joined, Kind, Loud, Page, Percent, Preset, Sided, Step, Task, Volume, Wide,
 };
 use derived_cose::{
-    Info, Packed, Protected, PublicKey, Sign1, Sign1Parts, SigningKey, SymmetricKey,
+    Encrypt0, Info, Mac0, Packed, PrivateKey, Protected, PublicKey, SharedKey, Sign1, Sign1Parts,
+    SigningKey, SymmetricKey,
 };
 use derived_enums::{Adjacent, Any, Event, Hinted, Shape};
 use derived_fields::{Blob, Mixed, Nothing, Pair, Wrap};
-use derived_keys::{Attestation, Claims, CoseKey};
+use derived_keys::{Attestation, Claims, CoseKey, Issued};
 use derived_structs::{Moon, Outer, Strict, Tree, Tuned, User};
 use derived_types::{Answer, Folder};
 use std::alloc::Global;
@@ -131,6 +132,7 @@ fn keys(options: Options, alloc: Global, row: &Row<'_>) -> Result<Option<bool>> 
         "named key" => of_both::<CoseKey>(options, alloc, row, bytes)?,
         "key" => of_both::<CoseKey>(integers, alloc, row, bytes)?,
         "claims" => of_slice::<Claims>(integers, alloc, row, bytes)?,
+        "issued" => of_both::<Issued>(integers, alloc, row, bytes)?,
         "attestation" => of_slice::<Attestation>(integers, alloc, row, bytes)?,
         _ => return Ok(None),
     };
@@ -144,9 +146,13 @@ fn cose(options: Options, alloc: Global, row: &Row<'_>) -> Result<Option<bool>> 
         "public keys" => of_both::<Vec<PublicKey>>(options, alloc, row, bytes)?,
         "signing key" => of_both::<SigningKey>(options, alloc, row, bytes)?,
         "symmetric key" => of_both::<SymmetricKey>(options, alloc, row, bytes)?,
+        "private key" => of_both::<PrivateKey>(options, alloc, row, bytes)?,
+        "shared key" => of_both::<SharedKey>(options, alloc, row, bytes)?,
         "protected" => of_both::<Protected>(arrays, alloc, row, bytes)?,
         "sign1" => of_both::<Sign1>(arrays, alloc, row, bytes)?,
         "sign1 parts" => of_both::<Sign1Parts>(options, alloc, row, bytes)?,
+        "mac0" => of_both::<Mac0>(arrays, alloc, row, bytes)?,
+        "encrypt0" => of_both::<Encrypt0>(arrays, alloc, row, bytes)?,
         "info" => of_slice::<Info>(options, alloc, row, bytes)?,
         "packed" => of_slice::<Packed>(options, alloc, row, bytes)?,
         _ => return Ok(None),

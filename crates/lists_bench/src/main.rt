@@ -2,8 +2,10 @@
 //! says, to be measured. It prints how many bytes the last turn wrote.
 #![tactic(auto)]
 
+mod by_rules;
 mod pieces;
 
+use by_rules::of_rules;
 use pieces::Sevens;
 use samples::enums::Color;
 use samples::structs::SmallStruct;
@@ -41,6 +43,7 @@ fn answer_input(rt: &HostRuntime) -> Result<Option<usize>> {
     match input.as_slice() {
         [task @ 0..=1, times, kind, item @ ..] => of_slice(alloc, *task == 1, *times, *kind, item),
         [task @ 2..=6, times, kind, item @ ..] => of_device(alloc, *task, *times, *kind, item),
+        [task @ 7..=9, times, kind, item @ ..] => of_rules(alloc, *task, *times, *kind, item),
         _ => Ok(None),
     }
 }

@@ -3,6 +3,7 @@
 
 pub mod by_hand;
 pub mod fits;
+pub mod labels;
 pub mod records;
 pub mod shapes;
 pub mod user;

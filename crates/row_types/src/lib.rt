@@ -8,6 +8,7 @@ pub mod bookmark;
 pub mod choice;
 pub mod enums;
 pub mod floats;
+pub mod labels;
 pub mod letters;
 pub mod structs;
 pub mod weather;

@@ -103,8 +103,10 @@ pub use Rattle.cbor_ser.specs.Serialized
 pub use Rattle.cbor_ser.specs.Collections
 pub use Rattle.cbor_ser.specs.Documents
 pub use Rattle.cbor_ser.specs.PartLists
+pub use Rattle.cbor_ser.specs.Labels
 pub use Rattle.cbor_ser.specs.OneOfs
 pub use Rattle.cbor_parts.specs.Schemas
+pub use Rattle.cbor_parts.specs.Keys
 pub use Rattle.cbor_parts.specs.OneOf1
 pub use Rattle.cbor_parts.specs.OneOf2
 pub use Rattle.cbor_parts.specs.OneOf3

@@ -4,9 +4,10 @@
 
 pub use cbor_length::{ByteCount, encoded_len};
 pub use cbor_ser::{
-    CollectionSerializer, FieldDocument, FieldsDocument, IoWrite, Items, NamedFields,
-    OptionalField, PartsDocument, Serialize, SerializeField, SerializeFields, SerializeTuple,
-    SerializeVariant, Serializer, SliceWrite, StructSerializer, TupleDocuments, VariantDocument,
-    Write, WriteDone, WriteRefused, WrittenBy, to_vec, to_vec_packed, to_writer,
+    ByLabels, ByNames, CollectionSerializer, FieldDocument, FieldsDocument, IoWrite, Items,
+    NamedFields, OptionalField, PartsDocument, Serialize, SerializeField, SerializeFields,
+    SerializeKeys, SerializeTuple, SerializeVariant, Serializer, SliceWrite, StructSerializer,
+    TupleDocuments, VariantDocument, Write, WriteDone, WriteRefused, WrittenBy, to_vec,
+    to_vec_packed, to_writer,
 };
 pub use cbor_writer::{BufferedWrite, to_io_writer};

@@ -50,7 +50,7 @@ fn gives_the_examples_of_the_standard(rt: HostRuntime) -> Done {
 #[test]
 fn goes_on_behind_what_the_writer_has(rt: HostRuntime) -> Done {
     let alloc = rt.alloc();
-    let mut file: Vec<u8> = Vec::new(alloc);
+    let mut file: Vec<u8> = Vec::with_capacity(alloc, 8)?;
     to_io_writer(alloc, &mut file, &"IETF")?;
     to_io_writer(alloc, &mut file, &1000u16)?;
     assert!(&rt; file.as_slice() == b"\x64IETF\x19\x03\xe8".as_slice());

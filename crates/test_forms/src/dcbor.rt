@@ -97,6 +97,83 @@ fn writes_integers_up_to_the_ends(rt: HostRuntime) -> Done {
     encodes(&rt, rt.alloc(), &i64::MIN, least)
 }
 
+// Integers at each edge of a width of a head (RFC 8949, section 3).
+#[test]
+fn writes_integers_at_each_edge_of_a_width(rt: HostRuntime) -> Done {
+    let rows: [(i128, &[u8]); 22] = [
+        (0, b"\0".as_slice()),
+        (1, b"\x01".as_slice()),
+        (23, b"\x17".as_slice()),
+        (24, b"\x18\x18".as_slice()),
+        (255, b"\x18\xff".as_slice()),
+        (256, b"\x19\x01\0".as_slice()),
+        (65535, b"\x19\xff\xff".as_slice()),
+        (65536, b"\x1a\0\x01\0\0".as_slice()),
+        (4294967295, b"\x1a\xff\xff\xff\xff".as_slice()),
+        (4294967296, b"\x1b\0\0\0\x01\0\0\0\0".as_slice()),
+        (
+            18446744073709551615,
+            b"\x1b\xff\xff\xff\xff\xff\xff\xff\xff".as_slice(),
+        ),
+        (-1, b"\x20".as_slice()),
+        (-24, b"\x37".as_slice()),
+        (-25, b"\x38\x18".as_slice()),
+        (-256, b"\x38\xff".as_slice()),
+        (-257, b"\x39\x01\0".as_slice()),
+        (-65536, b"\x39\xff\xff".as_slice()),
+        (-65537, b"\x3a\0\x01\0\0".as_slice()),
+        (-2147483648, b"\x3a\x7f\xff\xff\xff".as_slice()),
+        (-4294967296, b"\x3a\xff\xff\xff\xff".as_slice()),
+        (-4294967297, b"\x3b\0\0\0\x01\0\0\0\0".as_slice()),
+        (
+            -9223372036854775808,
+            b"\x3b\x7f\xff\xff\xff\xff\xff\xff\xff".as_slice(),
+        ),
+    ];
+    for (number, want) in rows {
+        encodes(&rt, rt.alloc(), &number, want)?;
+    }
+    Ok(())
+}
+
+// Integers as floats; one below -2^63; numbers of as many binary digits as a half (11) or a single
+// (24) has, and of one more; each width's least number and least normal one.
+#[test]
+fn writes_floats_at_each_edge_of_a_width(rt: HostRuntime) -> Done {
+    let rows: [(f64, &[u8]); 17] = [
+        (42.0, b"\x18\x2a".as_slice()),
+        (2345678.0, b"\x1a\0\x23\xca\xce".as_slice()),
+        (-2345678.0, b"\x3a\0\x23\xca\xcd".as_slice()),
+        (33554430.0, b"\x1a\x01\xff\xff\xfe".as_slice()),
+        (
+            -9223372036854774784.0,
+            b"\x3b\x7f\xff\xff\xff\xff\xff\xfb\xff".as_slice(),
+        ),
+        (
+            -18446744073709549568.0,
+            b"\xfb\xc3\xef\xff\xff\xff\xff\xff\xff".as_slice(),
+        ),
+        (512.5, b"\xf9\x60\x01".as_slice()),
+        (1024.5, b"\xfa\x44\x80\x10\0".as_slice()),
+        (4194304.5, b"\xfa\x4a\x80\0\x01".as_slice()),
+        (8388608.5, b"\xfb\x41\x60\0\0\x10\0\0\0".as_slice()),
+        (2345678.25, b"\xfa\x4a\x0f\x2b\x39".as_slice()),
+        (1.2, b"\xfb\x3f\xf3\x33\x33\x33\x33\x33\x33".as_slice()),
+        (0.00006097555160522461, b"\xf9\x03\xff".as_slice()),
+        (1.401298464324817e-45, b"\xfa\0\0\0\x01".as_slice()),
+        (1.1754943508222875e-38, b"\xfa\0\x80\0\0".as_slice()),
+        (5.0e-324, b"\xfb\0\0\0\0\0\0\0\x01".as_slice()),
+        (
+            2.2250738585072014e-308,
+            b"\xfb\0\x10\0\0\0\0\0\0".as_slice(),
+        ),
+    ];
+    for (number, want) in rows {
+        encodes(&rt, rt.alloc(), &number, want)?;
+    }
+    Ok(())
+}
+
 // Digits past the point, in each of the widths.
 #[test]
 fn finds_integers_in_each_width(rt: HostRuntime) -> Done {

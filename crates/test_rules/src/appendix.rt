@@ -4,10 +4,10 @@ use crate::checks::{departs, keeps};
 use cbor_rules::{Rule, Rules};
 use test_checks::Done;
 
-// Those of definite lengths are encoded deterministically.
+// Those of definite lengths are encoded deterministically, undefined aside.
 #[test]
 fn reads_deterministic_examples(rt: HostRuntime) -> Done {
-    let rows: [&[u8]; 22] = [
+    let rows: [&[u8]; 21] = [
         b"\0".as_slice(),
         b"\x17".as_slice(),
         b"\x18\x18".as_slice(),
@@ -21,7 +21,6 @@ fn reads_deterministic_examples(rt: HostRuntime) -> Done {
         b"\xfb\x3f\xf1\x99\x99\x99\x99\x99\x9a".as_slice(),
         b"\xf9\x7e\0".as_slice(),
         b"\xf9\xfc\0".as_slice(),
-        b"\xf7".as_slice(),
         b"\xc1\x1a\x51\x4b\x67\xb0".as_slice(),
         b"\xd8\x18\x45\x64IETF".as_slice(),
         b"\x44\x01\x02\x03\x04".as_slice(),
@@ -35,6 +34,29 @@ fn reads_deterministic_examples(rt: HostRuntime) -> Done {
         keeps(rt.alloc(), Rules::DETERMINISTIC, bytes)?;
         keeps(rt.alloc(), Rules::LENGTH_FIRST, bytes)?;
         keeps(rt.alloc(), Rules::ANY, bytes)?;
+    }
+    Ok(())
+}
+
+// No value is written as undefined: what accepts what is written alone refuses it, until that rule
+// is switched off.
+#[test]
+fn refuses_undefined(rt: HostRuntime) -> Done {
+    let forms: [Rules; 5] = [
+        Rules::CANONICAL,
+        Rules::DETERMINISTIC,
+        Rules::LENGTH_FIRST,
+        Rules::CTAP2,
+        Rules::DCBOR,
+    ];
+    let undefined = b"\xf7".as_slice();
+    for form in forms {
+        departs(&rt, rt.alloc(), form, undefined, Rule::NoUndefined, 1)?;
+        let passing = Rules {
+            no_undefined: false,
+            ..form
+        };
+        keeps(rt.alloc(), passing, undefined)?;
     }
     Ok(())
 }

@@ -146,29 +146,32 @@ pub fn gives_none<'a, T: Deserialize<'a, SliceRead<'a>>>(items: &mut RuledItems<
     }
 }
 
-/// The next item departs from this rule first, at this offset.
+/// The next item departs from this rule first, at this offset, and nothing is taken.
 pub fn item_departs<'a, T: Deserialize<'a, SliceRead<'a>>>(
     rt: &impl Abort,
     items: &mut RuledItems<'a, '_>,
     rule: Rule,
     offset: u64,
 ) -> Done {
+    let before = items.byte_offset();
     match items.next_item::<T>() {
         Ok(_) => Err(Fail::from("not refused")),
         Err(Refusal::Unread(e)) => Err(Fail::from(e)),
         Err(Refusal::Departs(departure)) => {
             assert_eq!(rt; departure, Departure { rule, offset });
+            assert_eq!(rt; items.byte_offset(), before);
             Ok(())
         }
     }
 }
 
-/// The next item isn't read, which is reported at this offset.
+/// The next item isn't read, which is reported at this offset, and nothing is taken.
 pub fn item_is_refused<'a, T: Deserialize<'a, SliceRead<'a>>>(
     rt: &impl Abort,
     items: &mut RuledItems<'a, '_>,
     offset: u64,
 ) -> Done {
+    let before = items.byte_offset();
     match items.next_item::<T>() {
         Ok(_) => Err(Fail::from("not refused")),
         Err(Refusal::Departs(_)) => Err(Fail::from("departs")),
@@ -177,6 +180,7 @@ pub fn item_is_refused<'a, T: Deserialize<'a, SliceRead<'a>>>(
                 return Err(Fail::from(e));
             }
             assert_eq!(rt; e.offset(), offset);
+            assert_eq!(rt; items.byte_offset(), before);
             Ok(())
         }
     }

@@ -72,6 +72,150 @@ fn refuses_what_it_does_not_have(rt: HostRuntime) -> Done {
     keeps(rt.alloc(), Rules::DCBOR, unsigned)
 }
 
+// Integers at each edge of a width of a head (RFC 8949, section 3).
+#[test]
+fn reads_integers_at_each_edge_of_a_width(rt: HostRuntime) -> Done {
+    let rows: [&[u8]; 19] = [
+        b"\x01".as_slice(),
+        b"\x17".as_slice(),
+        b"\x18\x18".as_slice(),
+        b"\x18\xff".as_slice(),
+        b"\x19\x01\0".as_slice(),
+        b"\x19\xff\xff".as_slice(),
+        b"\x1a\0\x01\0\0".as_slice(),
+        b"\x1a\xff\xff\xff\xff".as_slice(),
+        b"\x1b\0\0\0\x01\0\0\0\0".as_slice(),
+        b"\x20".as_slice(),
+        b"\x37".as_slice(),
+        b"\x38\x18".as_slice(),
+        b"\x38\xff".as_slice(),
+        b"\x39\x01\0".as_slice(),
+        b"\x39\xff\xff".as_slice(),
+        b"\x3a\0\x01\0\0".as_slice(),
+        b"\x3a\x7f\xff\xff\xff".as_slice(),
+        b"\x3a\xff\xff\xff\xff".as_slice(),
+        b"\x3b\0\0\0\x01\0\0\0\0".as_slice(),
+    ];
+    for bytes in rows {
+        keeps(rt.alloc(), Rules::DCBOR, bytes)?;
+    }
+    Ok(())
+}
+
+// A float below -2^63; numbers of as many binary digits as a half (11) or a single (24) has, and
+// of one more; each width's least number and least normal one; infinity.
+#[test]
+fn reads_floats_at_each_edge_of_a_width(rt: HostRuntime) -> Done {
+    let rows: [&[u8]; 15] = [
+        b"\xfb\xc3\xef\xff\xff\xff\xff\xff\xff".as_slice(),
+        b"\xf9\x60\x01".as_slice(),
+        b"\xfa\x44\x80\x10\0".as_slice(),
+        b"\xfa\x4a\x80\0\x01".as_slice(),
+        b"\xfb\x41\x60\0\0\x10\0\0\0".as_slice(),
+        b"\xfa\x4a\x0f\x2b\x39".as_slice(),
+        b"\xfb\x3f\xf3\x33\x33\x33\x33\x33\x33".as_slice(),
+        b"\xf9\x03\xff".as_slice(),
+        b"\xfa\0\0\0\x01".as_slice(),
+        b"\xfa\0\x80\0\0".as_slice(),
+        b"\xfb\0\0\0\0\0\0\0\x01".as_slice(),
+        b"\xfb\0\x10\0\0\0\0\0\0".as_slice(),
+        b"\xf9\0\x01".as_slice(),
+        b"\xf9\x04\0".as_slice(),
+        b"\xf9\x7c\0".as_slice(),
+    ];
+    for bytes in rows {
+        keeps(rt.alloc(), Rules::DCBOR, bytes)?;
+    }
+    Ok(())
+}
+
+// These integers in the head of the next width, and 1 in three bytes.
+#[test]
+fn refuses_integers_in_a_longer_head(rt: HostRuntime) -> Done {
+    let rows: [(&[u8], u64); 14] = [
+        (b"\x18\0".as_slice(), 2),
+        (b"\x18\x17".as_slice(), 2),
+        (b"\x19\0\x01".as_slice(), 3),
+        (b"\x19\0\x18".as_slice(), 3),
+        (b"\x19\0\xff".as_slice(), 3),
+        (b"\x1a\0\0\x01\0".as_slice(), 5),
+        (b"\x1a\0\0\xff\xff".as_slice(), 5),
+        (b"\x1b\0\0\0\0\0\x01\0\0".as_slice(), 9),
+        (b"\x1b\0\0\0\0\xff\xff\xff\xff".as_slice(), 9),
+        (b"\x38\0".as_slice(), 2),
+        (b"\x38\x17".as_slice(), 2),
+        (b"\x39\0\xff".as_slice(), 3),
+        (b"\x3a\0\0\xff\xff".as_slice(), 5),
+        (b"\x3b\0\0\0\0\xff\xff\xff\xff".as_slice(), 9),
+    ];
+    for (bytes, offset) in rows {
+        let rule = Rule::ShortestHeads;
+        departs(&rt, rt.alloc(), Rules::DCBOR, bytes, rule, offset)?;
+    }
+    Ok(())
+}
+
+// 1.5, 512.5, 1024.5, 4194304.5, 2^-24, 2^-149, 2^-126 and the infinities, wider than they have to
+// be, and two NaN, for which f9 7e 00 stands.
+#[test]
+fn refuses_wider_floats(rt: HostRuntime) -> Done {
+    let rows: [(&[u8], u64); 11] = [
+        (b"\xfb\x3f\xf8\0\0\0\0\0\0".as_slice(), 9),
+        (b"\xfa\x44\0\x20\0".as_slice(), 5),
+        (b"\xfb\x40\x90\x02\0\0\0\0\0".as_slice(), 9),
+        (b"\xfb\x41\x50\0\0\x20\0\0\0".as_slice(), 9),
+        (b"\xfa\x33\x80\0\0".as_slice(), 5),
+        (b"\xfb\x36\xa0\0\0\0\0\0\0".as_slice(), 9),
+        (b"\xfb\x38\x10\0\0\0\0\0\0".as_slice(), 9),
+        (b"\xfa\x7f\x80\0\0".as_slice(), 5),
+        (b"\xfb\xff\xf0\0\0\0\0\0\0".as_slice(), 9),
+        (b"\xfa\x7f\xc0\0\0".as_slice(), 5),
+        (b"\xfb\x7f\xf8\0\0\0\0\0\x01".as_slice(), 9),
+    ];
+    for (bytes, offset) in rows {
+        let rule = Rule::ShortestFloats;
+        departs(&rt, rt.alloc(), Rules::DCBOR, bytes, rule, offset)?;
+    }
+    Ok(())
+}
+
+// 12.0, -0.0, 42.0, 2345678.0, -2345678.0, 33554430.0, 1024 - 2^63, and -2^63, which is the least
+// in the range.
+#[test]
+fn refuses_integers_as_floats(rt: HostRuntime) -> Done {
+    let rows: [(&[u8], u64); 8] = [
+        (b"\xf9\x4a\0".as_slice(), 3),
+        (b"\xf9\x80\0".as_slice(), 3),
+        (b"\xfa\x42\x28\0\0".as_slice(), 5),
+        (b"\xfa\x4a\x0f\x2b\x38".as_slice(), 5),
+        (b"\xfa\xca\x0f\x2b\x38".as_slice(), 5),
+        (b"\xfb\x41\x7f\xff\xff\xe0\0\0\0".as_slice(), 9),
+        (b"\xfb\xc3\xdf\xff\xff\xff\xff\xff\xff".as_slice(), 9),
+        (b"\xfb\xc3\xe0\0\0\0\0\0\0".as_slice(), 9),
+    ];
+    for (bytes, offset) in rows {
+        let rule = Rule::ReducedNumbers;
+        departs(&rt, rt.alloc(), Rules::DCBOR, bytes, rule, offset)?;
+    }
+    Ok(())
+}
+
+// A byte string, a text, an array and a map, each empty, whose first byte says it already.
+#[test]
+fn refuses_indefinite_lengths(rt: HostRuntime) -> Done {
+    let rows: [&[u8]; 4] = [
+        b"\x5f\xff".as_slice(),
+        b"\x7f\xff".as_slice(),
+        b"\x9f\xff".as_slice(),
+        b"\xbf\xff".as_slice(),
+    ];
+    for bytes in rows {
+        let rule = Rule::DefiniteLengths;
+        departs(&rt, rt.alloc(), Rules::DCBOR, bytes, rule, 1)?;
+    }
+    Ok(())
+}
+
 #[test]
 fn reads_what_is_written(rt: HostRuntime) -> Done {
     let value: Value = from_slice(

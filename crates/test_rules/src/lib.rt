@@ -22,8 +22,14 @@ mod published;
 #[cfg(test)]
 mod raw;
 #[cfg(test)]
+mod readers;
+#[cfg(test)]
 mod rules;
+#[cfg(test)]
+mod stream;
 #[cfg(test)]
 mod tags;
 #[cfg(test)]
 mod unique;
+#[cfg(test)]
+mod written;

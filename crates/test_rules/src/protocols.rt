@@ -2,8 +2,8 @@
 
 use crate::checks::{departs, keeps};
 use crate::published::{
-    ATTESTATION, CLAIMS, CREDENTIAL_KEY, INFO, KEY_SET, MESSAGE, SIGNING_KEY, SYMMETRIC_128,
-    SYMMETRIC_256, TOKEN,
+    ATTESTATION, CLAIMS, CREDENTIAL_KEY, ENCRYPTED, INFO, ISSUED, KEY_SET, MACED, MACED_ISSUED,
+    MESSAGE, NESTED, SIGNING_KEY, SYMMETRIC_128, SYMMETRIC_256, TOKEN,
 };
 use cbor_rules::{KeyOrder, Rule, Rules};
 use std::alloc::Global;
@@ -82,17 +82,57 @@ fn refuses_keys_of_cose_in_the_order_of_rfcs(rt: HostRuntime) -> Done {
     Ok(())
 }
 
-// CTAP2 has no tags: d2 is one, in one byte. What it tags is an array of h'a10126', the map of 4
-// to a string, and two more strings, with the shortest heads: that keeps the rules. The protected
-// header, {1: -7}, and the claims are items by themselves, which stand in byte strings there.
+// CTAP2 has no tags: d0, d1 and d2 are one each, in one byte. What they tag is an array of a
+// string, as h'a10126', a map of 4 to a string, where it is encrypted of 5 to another, and one or
+// two more strings, with the shortest heads: that keeps the rules. The protected header, {1: -7},
+// and the claims are items by themselves, which stand in byte strings there.
 #[test]
 fn refuses_messages_with_their_tags(rt: HostRuntime) -> Done {
-    for bytes in [TOKEN, MESSAGE] {
+    for bytes in [TOKEN, MESSAGE, ENCRYPTED, NESTED, MACED_ISSUED] {
         departs(&rt, rt.alloc(), Rules::CTAP2, bytes, Rule::NoTags, 1)?;
         keeps(rt.alloc(), Rules::CTAP2, behind_first(bytes))?;
     }
     keeps(rt.alloc(), Rules::CTAP2, CLAIMS)?;
     keeps(rt.alloc(), Rules::CTAP2, b"\xa1\x01\x26".as_slice())
+}
+
+// 61 is d8 3d, and within it 17 is d1.
+#[test]
+fn refuses_each_tag_of_a_token(rt: HostRuntime) -> Done {
+    departs(&rt, rt.alloc(), Rules::CTAP2, MACED, Rule::NoTags, 2)?;
+    let within = behind_first(behind_first(MACED));
+    departs(&rt, rt.alloc(), Rules::CTAP2, within, Rule::NoTags, 1)?;
+    keeps(rt.alloc(), Rules::CTAP2, behind_first(within))
+}
+
+// The others have tags. The labels 4 and 5 ascend, and heads are the shortest: 58 50 has 80 bytes,
+// 58 58 has 88 and 58 b7 has 183. What byte strings hold, a float also, is not looked at.
+#[test]
+fn reads_tokens_with_their_tags(rt: HostRuntime) -> Done {
+    for bytes in [TOKEN, MACED, ENCRYPTED, NESTED, MACED_ISSUED] {
+        keeps(rt.alloc(), Rules::UNIQUE_KEYS, bytes)?;
+        keeps(rt.alloc(), Rules::CANONICAL, bytes)?;
+        keeps(rt.alloc(), Rules::LENGTH_FIRST, bytes)?;
+        keeps(rt.alloc(), Rules::DCBOR, bytes)?;
+    }
+    Ok(())
+}
+
+// 1443944944.5 is 2887889889 halves, an odd number of 32 binary digits. A single has 24: so the
+// double is the shortest. Without its half it has 27 up to the last 1, and is no shorter, but an
+// integer.
+#[test]
+fn reads_a_time_with_a_fraction(rt: HostRuntime) -> Done {
+    keeps(rt.alloc(), Rules::CTAP2, ISSUED)?;
+    keeps(rt.alloc(), Rules::LENGTH_FIRST, ISSUED)?;
+    keeps(rt.alloc(), Rules::DCBOR, ISSUED)?;
+    let whole = b"\xa1\x06\xfb\x41\xd5\x84\x36\x7c\0\0\0".as_slice();
+    keeps(rt.alloc(), Rules::DETERMINISTIC, whole)?;
+    let rule = Rule::ReducedNumbers;
+    departs(&rt, rt.alloc(), Rules::DCBOR, whole, rule, 11)?;
+    // the label 6 again
+    let again = b"\x06\x1a\x56\x10\xd9\xf0";
+    repeats(&rt, rt.alloc(), b"\xa2", ISSUED, again, 12)
 }
 
 // RFC 9052, section 9, asks that no label stands twice in a map, and asks for no order.

@@ -1,12 +1,12 @@
 //! Items of a source whose bytes are taken, and gone over by the rules while they come.
 
+use crate::readers::Endless;
 use cbor_de::{Deserialize, Deserializer};
 use cbor_rules::{
     Departure, KeyOrder, Refusal, Rule, Rules, next_raw_item, next_raw_item_with_tags,
 };
 use cbor_value::raw_value::RawValue;
 use std::alloc::Global;
-use std::io;
 use std::process::Abort;
 use std::test::Fail;
 use test_checks::{Done, is_refused};
@@ -22,24 +22,6 @@ const NO_TAGS: Rules = Rules {
     no_tags: true,
     ..Rules::ANY
 };
-
-// Gives these bytes, one a call, and then zeros without end.
-#[derive(Drop)]
-struct Endless<'a> {
-    bytes: &'a [u8],
-    given: usize,
-}
-
-impl io::Read for Endless<'_> {
-    fn read(&mut self, buf: &mut [u8]) -> io::Result<usize> {
-        let Some(place) = buf.first_mut() else {
-            return Ok(0);
-        };
-        *place = self.bytes.get(self.given).copied().unwrap_or(0);
-        self.given = self.given.saturating_add(1);
-        Ok(1)
-    }
-}
 
 /// What is taken keeps the rules, and has these bytes.
 fn has_taken(rt: &impl Abort, answer: Result<Option<RawValue>, Refusal>, bytes: &[u8]) -> Done {

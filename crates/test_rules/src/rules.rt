@@ -7,85 +7,69 @@ use cbor_value::Value;
 use std::test::Fail;
 use test_checks::Done;
 
-// One rule each, with bytes that break it alone, the place, and bytes that keep it.
+// One rule each.
+const HEADS: Rules = Rules {
+    shortest_heads: true,
+    ..Rules::ANY
+};
+
+const LENGTHS: Rules = Rules {
+    definite_lengths: true,
+    ..Rules::ANY
+};
+
+const KEYS: Rules = Rules {
+    plain_keys: true,
+    ..Rules::ANY
+};
+
+const FLOATS: Rules = Rules {
+    shortest_floats: true,
+    ..Rules::ANY
+};
+
+const NAN: Rules = Rules {
+    one_nan: true,
+    ..Rules::ANY
+};
+
+const NO_UNDEFINED: Rules = Rules {
+    no_undefined: true,
+    ..Rules::ANY
+};
+
+const NO_TAGS: Rules = Rules {
+    no_tags: true,
+    ..Rules::ANY
+};
+
+// Bytes that break one rule alone, and the place, and bytes that keep it.
 #[test]
 fn reports_each_rule(rt: HostRuntime) -> Done {
-    let rows: [(Rules, Rule, &[u8], u64, &[u8]); 7] = [
-        (
-            Rules {
-                shortest_heads: true,
-                ..Rules::ANY
-            },
-            Rule::ShortestHeads,
-            b"\x82\x01\x58\x01a".as_slice(),
-            4,
-            b"\x9f\x01\x41a\xff".as_slice(),
-        ),
-        (
-            Rules {
-                definite_lengths: true,
-                ..Rules::ANY
-            },
-            Rule::DefiniteLengths,
-            b"\xc1\x7f\xff".as_slice(),
-            2,
-            b"\xd8\x01\x78\0".as_slice(),
-        ),
-        (
-            Rules {
-                plain_keys: true,
-                ..Rules::ANY
-            },
-            Rule::PlainKeys,
-            b"\xa2\xf5\xf6\xc1\x05\xf6".as_slice(),
-            5,
-            b"\xa3\x20\x80\x7f\xff\xa0\xf9\x3e\0\xc1\0".as_slice(),
-        ),
-        (
-            Rules {
-                shortest_floats: true,
-                ..Rules::ANY
-            },
-            Rule::ShortestFloats,
-            b"\x81\xfa\x3f\xc0\0\0".as_slice(),
-            6,
-            b"\x98\x02\xf9\x3e\0\xf9\x7e\x01".as_slice(),
-        ),
-        (
-            Rules {
-                one_nan: true,
-                ..Rules::ANY
-            },
-            Rule::OneNan,
-            b"\x81\xf9\xfe\0".as_slice(),
-            4,
-            b"\x82\xf9\x7e\0\xfa\x3f\xc0\0\0".as_slice(),
-        ),
-        (
-            Rules {
-                no_undefined: true,
-                ..Rules::ANY
-            },
-            Rule::NoUndefined,
-            b"\xa1\xf7\xf7".as_slice(),
-            2,
-            b"\x83\xf6\xf5\xf4".as_slice(),
-        ),
-        (
-            Rules {
-                no_tags: true,
-                ..Rules::ANY
-            },
-            Rule::NoTags,
-            b"\x81\xd8\x20\x60".as_slice(),
-            3,
-            b"\x81\x18\x06".as_slice(),
-        ),
+    let breaking: [(Rules, Rule, &[u8], u64); 7] = [
+        (HEADS, Rule::ShortestHeads, b"\x82\x01\x58\x01a", 4),
+        (LENGTHS, Rule::DefiniteLengths, b"\xc1\x7f\xff", 2),
+        (KEYS, Rule::PlainKeys, b"\xa2\xf5\xf6\xc1\x05\xf6", 5),
+        (FLOATS, Rule::ShortestFloats, b"\x81\xfa\x3f\xc0\0\0", 6),
+        (NAN, Rule::OneNan, b"\x81\xf9\xfe\0", 4),
+        (NO_UNDEFINED, Rule::NoUndefined, b"\xa1\xf7\xf7", 2),
+        (NO_TAGS, Rule::NoTags, b"\x81\xd8\x20\x60", 3),
     ];
-    for (rules, rule, breaking, offset, keeping) in rows {
-        departs(&rt, rt.alloc(), rules, breaking, rule, offset)?;
-        keeps(rt.alloc(), Rules::ANY, breaking)?;
-        keeps(rt.alloc(), rules, keeping)?;
+    for (rules, rule, bytes, offset) in breaking {
+        departs(&rt, rt.alloc(), rules, bytes, rule, offset)?;
+        keeps(rt.alloc(), Rules::ANY, bytes)?;
+    }
+    let keeping: [(Rules, &[u8]); 7] = [
+        (HEADS, b"\x9f\x01\x41a\xff"),
+        (LENGTHS, b"\xd8\x01\x78\0"),
+        (KEYS, b"\xa3\x20\x80\x7f\xff\xa0\xf9\x3e\0\xc1\0"),
+        (FLOATS, b"\x98\x02\xf9\x3e\0\xf9\x7e\x01"),
+        (NAN, b"\x82\xf9\x7e\0\xfa\x3f\xc0\0\0"),
+        (NO_UNDEFINED, b"\x83\xf6\xf5\xf4"),
+        (NO_TAGS, b"\x81\x18\x06"),
+    ];
+    for (rules, bytes) in keeping {
+        keeps(rt.alloc(), rules, bytes)?;
     }
     Ok(())
 }

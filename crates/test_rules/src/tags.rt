@@ -38,6 +38,8 @@ fn prints_departures(rt: HostRuntime) -> Done {
         (Rule::DefiniteLengths, "indefinite length at offset 3"),
         (Rule::PlainKeys, "array, map or tag as a key at offset 3"),
         (Rule::AscendingKeys, "key out of order at offset 3"),
+        (Rule::UniqueKeys, "duplicate key at offset 3"),
+        (Rule::ReducedNumbers, "number not reduced at offset 3"),
         (Rule::ShortestFloats, "float not the shortest at offset 3"),
         (Rule::OneNan, "NaN other than f97e00 at offset 3"),
         (Rule::NoUndefined, "undefined at offset 3"),

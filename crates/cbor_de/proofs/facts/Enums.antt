@@ -2,16 +2,16 @@
 -- each of its answers.
 
 -- what a call took that reads an enum
-pub use Rattle.cbor_de.proofs.Enums.{TakesEnum}
+pub use Rattle.cbor_de.proofs.parts.Enums.{TakesEnum}
 -- the variant, and what is known of it
-pub use Rattle.cbor_de.proofs.Enums.{variant_is, variant_unread}
+pub use Rattle.cbor_de.proofs.parts.Enums.{variant_is, variant_unread}
 -- a content of no part, of one, or of any other meaning
-pub use Rattle.cbor_de.proofs.Enums.{unit_read, unit_unread, newtype_read, newtype_unread, content_read, content_unread}
+pub use Rattle.cbor_de.proofs.parts.Enums.{unit_read, unit_unread, newtype_read, newtype_unread, content_read, content_unread}
 -- a content of several parts, and what is known of them
-pub use Rattle.cbor_de.proofs.Enums.{tuple_begins, tuple_unread}
+pub use Rattle.cbor_de.proofs.parts.Enums.{tuple_begins, tuple_unread}
 -- the items that remain of its array, and what they mean
-pub use Rattle.cbor_de.proofs.Enums.{has_items, items_read, items_made}
+pub use Rattle.cbor_de.proofs.parts.Enums.{has_items, items_read, items_made}
 -- a part
-pub use Rattle.cbor_de.proofs.Enums.{part_read, part_unread}
+pub use Rattle.cbor_de.proofs.parts.Enums.{part_read, part_unread}
 -- the end
-pub use Rattle.cbor_de.proofs.Enums.{parts_left, parts_read}
+pub use Rattle.cbor_de.proofs.parts.Enums.{parts_left, parts_read}

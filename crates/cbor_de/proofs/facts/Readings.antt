@@ -1,10 +1,10 @@
 -- Published: what a reading says of another.
 
 -- where a type reads every item, one promise for another
-pub use Rattle.cbor_de.proofs.Faults.{where_map}
+pub use Rattle.cbor_de.proofs.refusals.Faults.{where_map}
 -- what is read as a value is the value of the item that is read
 pub use Rattle.cbor_decode.proofs.facts.Readings.{along, value_seen}
 -- an item that is read whatever it is, and isn't there, is no item at all
-pub use Rattle.cbor_de.proofs.FieldNames.{no_item}
+pub use Rattle.cbor_de.proofs.structs.FieldNames.{no_item}
 -- what is read behind a call that took nothing
-pub use Rattle.cbor_de.proofs.AtHand.{read_here}
+pub use Rattle.cbor_de.proofs.parts.AtHand.{read_here}

@@ -13,7 +13,7 @@ impl<T: Readable> Readable for Box<T> {
 }
 
 impl<'de, R: Read<'de>, T: Deserialize<'de, R>> Deserialize<'de, R> for Box<T> {
-    #[tactic(auto, using(crate::proofs::Forms::plain))]
+    #[tactic(auto, using(crate::proofs::refusals::Forms::plain))]
     fn deserialize(de: &mut Deserializer<R>) -> Result<Box<T>> {
         let value = match T::deserialize(de) {
             Ok(value) => value,

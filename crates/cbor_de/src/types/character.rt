@@ -17,7 +17,7 @@ use std::alloc::Global;
 const NO_CHARACTER: &str = "invalid type: expected a character";
 
 // The one character that a text is.
-#[tactic(auto, using(crate::proofs::Forms::message_form))]
+#[tactic(auto, using(crate::proofs::refusals::Forms::message_form))]
 fn one_of(text: &str, alloc: Global) -> Result<char>
     ensures read { IsOneOf text.now result }
     ensures message { IfErr result IsMessage }

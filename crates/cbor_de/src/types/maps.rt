@@ -21,7 +21,7 @@ impl<K: Readable + Ord, V: Readable> Readable for BTreeMap<K, V> {
 
 impl<'de, R: Read<'de>, K: Deserialize<'de, R> + Ord, V: Deserialize<'de, R>> Deserialize<'de, R>
     for BTreeMap<K, V> {
-    #[tactic(auto, using(crate::proofs::Forms::plain))]
+    #[tactic(auto, using(crate::proofs::refusals::Forms::plain))]
     fn deserialize(de: &mut Deserializer<R>) -> Result<BTreeMap<K, V>> {
         let mut map = BTreeMap::new(de.decoder.alloc);
         let mut access = de.map()?;

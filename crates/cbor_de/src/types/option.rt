@@ -35,7 +35,7 @@ impl<T: Readable> Readable for Option<T> {
 
 impl<'de, R: Read<'de>, T: Deserialize<'de, R>> Deserialize<'de, R> for Option<T> {
     #[inline(always)]
-    #[tactic(auto, using(crate::proofs::Forms::plain))]
+    #[tactic(auto, using(crate::proofs::refusals::Forms::plain))]
     fn deserialize(de: &mut Deserializer<R>) -> Result<Option<T>> {
         match take_null(&mut de.decoder) {
             Ok(true) => return Ok(None),

@@ -32,7 +32,7 @@ impl<'de, R: Read<'de>, T: Deserialize<'de, R>> Deserialize<'de, R> for Vec<T> {
 
 // The items of an array.
 #[inline(always)]
-#[tactic(auto, using(crate::proofs::Forms::plain))]
+#[tactic(auto, using(crate::proofs::refusals::Forms::plain))]
 pub(super) fn array_items<'de, T: Deserialize<'de, R>, R: Read<'de>>(
     de: &mut Deserializer<R>,
 ) -> Result<Vec<T>>
@@ -81,7 +81,7 @@ impl<T: DeserializeOwned> DeserializeOwned for Vec<T> {
 }
 
 // The items of an array of exactly n.
-#[tactic(auto, using(crate::proofs::Forms::plain))]
+#[tactic(auto, using(crate::proofs::refusals::Forms::plain))]
 fn exactly<'de, T: Deserialize<'de, R>, R: Read<'de>>(
     de: &mut Deserializer<R>,
     n: usize,

@@ -24,7 +24,7 @@ impl<T: Readable + Ord> Readable for BTreeSet<T> {
 }
 
 impl<'de, R: Read<'de>, T: Deserialize<'de, R> + Ord> Deserialize<'de, R> for BTreeSet<T> {
-    #[tactic(auto, using(crate::proofs::Forms::plain))]
+    #[tactic(auto, using(crate::proofs::refusals::Forms::plain))]
     fn deserialize(de: &mut Deserializer<R>) -> Result<BTreeSet<T>> {
         let items = match array_items::<T, R>(de) {
             Ok(items) => items,

@@ -1,5 +1,5 @@
 -- The variant that an item is.
-use Rattle.std.proofs.Common.{◌≡◌, ◌∙◌, ℕ, zero, suc, Bool, true, List, [], ◌∷◌, ◌++◌, Option, Some, None, Ok, Err, refl, sym, ap, subst}
+use Rattle.std.proofs.Common.{◌≡◌, ◌∙◌, ℕ, ℤ, pos, negsuc, zero, suc, Bool, true, List, [], ◌∷◌, ◌++◌, Option, Some, None, Ok, Err, refl, sym, ap, subst}
 use Rattle.cbor_model.specs.Formats.{Formats}
 use Rattle.cbor_model.specs.Raw as raw
 use Rattle.cbor_model.specs.Raw.{Raw, Raws, Length, no_raws}
@@ -18,7 +18,7 @@ use Rattle.cbor_decode.specs.declared.cursor.Remaining.{Remaining}
 use Rattle.cbor_decode.proofs.facts.Steps.{step_map, step_then}
 use Rattle.cbor_decode_as.specs.Accesses.{items_at, array_of, IsArrayHead, IsItems, IsNextItem, RefusesArray}
 use Rattle.cbor_decode_as.specs.Enums.{IsVariant, IsName, Content, alone, one, parts, reads_names}
-use Rattle.cbor_decode_as.specs.Identifiers.{IsIdentifier, IsFirst, IsPlace}
+use Rattle.cbor_decode_as.specs.Identifiers.{MeansPlace, IsIdentifier, IsLabel, IsPlaceNumber, IsFirst, IsPlace}
 use Rattle.cbor_decode_as.specs.Kinds.{kind_of}
 use Rattle.cbor_decode_as.specs.Kinds as kind
 use Rattle.cbor_decode_as.specs.TaggedHeads.{in_tags, tagged}
@@ -50,36 +50,53 @@ string_one (raw.tag w n r) x y h k = absurd h
 string_one (raw.simple s) x y h k = absurd h
 string_one (raw.float w bits) x y h k = absurd h
 
-first_one : (names : List (List ℕ)) (b : List ℕ) (i j : ℕ) → IsFirst names b i → IsFirst names b j → i ≡ j
+first_one : {A : Type 0} (names : List A) (b : A) (i j : ℕ) → IsFirst names b i → IsFirst names b j → i ≡ j
 first_one [] b i j h k = absurd h
 first_one (n ∷ ns) b zero zero h k = refl
 first_one (n ∷ ns) b zero (suc j) h k = absurd (k.0 h)
 first_one (n ∷ ns) b (suc i) zero h k = absurd (h.0 k)
 first_one (n ∷ ns) b (suc i) (suc j) h k = ap suc (first_one ns b i j h.1 k.1)
 
-place_one : (names : List (List ℕ)) (b : List ℕ) (p q : Option ℕ) → IsPlace names b p → IsPlace names b q → p ≡ q
+pub place_one : {A : Type 0} (names : List A) (b : A) (p q : Option ℕ) → IsPlace names b p → IsPlace names b q → p ≡ q
 place_one names b None None h k = refl
 place_one names b None (Some j) h k = absurd (h j k)
 place_one names b (Some i) None h k = absurd (k i h)
 place_one names b (Some i) (Some j) h k = ap (λ (n : ℕ). Some n) (first_one names b i j h k)
 
-module _ (names : List (List ℕ)) where
+-- a number means one place at the most
+abbrev pub NumberedOne : (ℤ → Option ℕ → Type 0) → Type 0
+NumberedOne numbered = (z : ℤ) (p q : Option ℕ) → numbered z p → numbered z q → p ≡ q
+
+module _ (numbered : ℤ → Option ℕ → Type 0) (one : NumberedOne numbered) (names : List (List ℕ)) where
   named_one : (r : Raw) (p q : Option ℕ) → (b : List ℕ) × IsString r b × IsPlace names b p → (b : List ℕ) × IsString r b × IsPlace names b q → p ≡ q
   named_one r p q h k = place_one names h.0 p q h.2 (subst (λ (b : List ℕ). IsPlace names b q) (string_one r k.0 h.0 k.1 h.1) k.2)
 
+  -- an item means one place
+  means_one : (r : Raw) (p q : Option ℕ) → MeansPlace numbered names r p → MeansPlace numbered names r q → p ≡ q
+  means_one (raw.unsigned w n) p q h k = one (pos n) p q h k
+  means_one (raw.negative w n) p q h k = one (negsuc n) p q h k
+  means_one (raw.bytes c) p q h k = named_one (raw.bytes c) p q h k
+  means_one (raw.text c) p q h k = named_one (raw.text c) p q h k
+  means_one (raw.bytes_chunks cs) p q h k = named_one (raw.bytes_chunks cs) p q h k
+  means_one (raw.text_chunks cs) p q h k = named_one (raw.text_chunks cs) p q h k
+  means_one (raw.array l rs) p q h k = named_one (raw.array l rs) p q h k
+  means_one (raw.map l ps) p q h k = named_one (raw.map l ps) p q h k
+  means_one (raw.tag w n r) p q h k = named_one (raw.tag w n r) p q h k
+  means_one (raw.simple s) p q h k = named_one (raw.simple s) p q h k
+  means_one (raw.float w bits) p q h k = named_one (raw.float w bits) p q h k
+
+numbered_one : (names : List (List ℕ)) → NumberedOne (IsPlaceNumber names)
+numbered_one names (pos n) p q h k = h ∙ sym k
+numbered_one names (negsuc n) p q h k = absurd h
+
+-- an item is one label
+pub label_one : (labels : List ℤ) (r : Raw) (p q : Option ℕ) → IsLabel labels r p → IsLabel labels r q → p ≡ q
+label_one labels = means_one (IsPlace labels) (λ z. place_one labels z) []
+
+module _ (names : List (List ℕ)) where
   -- an item names one place
   pub identifier_one : (r : Raw) (p q : Option ℕ) → IsIdentifier names r p → IsIdentifier names r q → p ≡ q
-  identifier_one (raw.unsigned w n) p q h k = h ∙ sym k
-  identifier_one (raw.negative w n) p q h k = named_one (raw.negative w n) p q h k
-  identifier_one (raw.bytes c) p q h k = named_one (raw.bytes c) p q h k
-  identifier_one (raw.text c) p q h k = named_one (raw.text c) p q h k
-  identifier_one (raw.bytes_chunks cs) p q h k = named_one (raw.bytes_chunks cs) p q h k
-  identifier_one (raw.text_chunks cs) p q h k = named_one (raw.text_chunks cs) p q h k
-  identifier_one (raw.array l rs) p q h k = named_one (raw.array l rs) p q h k
-  identifier_one (raw.map l ps) p q h k = named_one (raw.map l ps) p q h k
-  identifier_one (raw.tag w n r) p q h k = named_one (raw.tag w n r) p q h k
-  identifier_one (raw.simple s) p q h k = named_one (raw.simple s) p q h k
-  identifier_one (raw.float w bits) p q h k = named_one (raw.float w bits) p q h k
+  identifier_one = means_one (IsPlaceNumber names) (numbered_one names) names
 
   some_none : (i : ℕ) → Some i ≡ None → ⊥
   some_none i e = absurd cc
@@ -112,7 +129,7 @@ module _ (f : Formats) (names : List (List ℕ)) where
   -- an identifier is a variant without content
   name_variant : (r : Raw) (i : ℕ) → reads_names f ≡ true → IsIdentifier names r (Some i) → IsVariant f names r (i, alone)
   name_variant (raw.unsigned w n) i read h = (read, h, refl)
-  name_variant (raw.negative w n) i read h = absurd h.1
+  name_variant (raw.negative w n) i read h = absurd h
   name_variant (raw.bytes c) i read h = (read, h, refl)
   name_variant (raw.text c) i read h = (read, h, refl)
   name_variant (raw.bytes_chunks cs) i read h = (read, h, refl)

@@ -4,4 +4,4 @@
 pub use Rattle.cbor_decode_as.proofs.enums.VariantParts.{end_left, item_lacks, none_comes, one_answer}
 pub use Rattle.cbor_decode_as.proofs.enums.VariantParts.{only_taken, parts_inside, untold}
 -- the identifier names one variant
-pub use Rattle.cbor_decode_as.proofs.enums.Variants.{identifier_one, name_one}
+pub use Rattle.cbor_decode_as.proofs.enums.Variants.{identifier_one, label_one, name_one}

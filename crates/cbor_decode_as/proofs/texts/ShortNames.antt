@@ -14,7 +14,7 @@ use Rattle.cbor_decode.specs.Gives.{Step}
 use Rattle.cbor_decode.specs.declared.head.Head.TheVariants as head
 use Rattle.cbor_decode.proofs.ShortHeads.{short_step}
 use Rattle.cbor_decode_as.specs.Enums.{IsName}
-use Rattle.cbor_decode_as.specs.Identifiers.{place_of, IsFirst, IsIdentifier, IsShortName}
+use Rattle.cbor_decode_as.specs.Identifiers.{place_of, IsFirst, IsIdentifier, IsPlaceNumber, IsShortName}
 use Rattle.cbor_decode_as.specs.Takes.{raws, IsRead}
 use Rattle.cbor_decode_as.proofs.heads.Opened.{head_opens}
 use Rattle.cbor_decode_as.proofs.numbers.Scalars.{takes_scalar}
@@ -47,7 +47,7 @@ module _ (names : List (List ℕ)) (allowed : ReadErrorCode → Bool) (f : Forma
   text_taken text short utf8 first took below =
       let all : take (length text) text ≡ text = take-length text in
       short_text_taken allowed f (λ r k. IsIdentifier names r (Some k)) levels kept s t (length text) text i short (omega arith)
-      (λ r is. string_names names r (take (length text) text) (Some i) is (subst (λ (x : List ℕ). IsFirst names x i) (sym all) first))
+      (λ r is. string_names (IsPlaceNumber names) names r (take (length text) text) (Some i) is (subst (λ (x : List ℕ). IsFirst names x i) (sym all) first))
       (subst IsUtf8 (sym all) utf8) (subst (λ (x : List ℕ). TookKept s t ((0x60 + length text) ∷ x)) (sym all) took) below
 
   pub short_name_taken : (p : List ℕ) → IsShortName names p i → TookKept s t p → t.offset < 2 ^ 64 → Named

@@ -6,6 +6,7 @@ ghost use Rattle.cbor_ser.specs.PartLists.{field_if, name_in};
 use super::SerializeFields;
 use crate::field::SerializeField;
 use crate::items::WriteDone;
+use crate::keys::SerializeKeys;
 use crate::part_list::WriteFields;
 use crate::serializer::Serializer;
 use cbor_io::error::Error;
@@ -42,10 +43,10 @@ impl<
         fields.written()
     }
 
-    fn serialize_as_fields<W: Write>(
+    fn serialize_as_fields<W: Write, S: SerializeKeys>(
         &self,
         ser: &mut Serializer<W>,
-        names: &[&str],
+        keys: S,
         refusal: &mut Option<Error>,
     ) -> WriteDone {
         let fields = (
@@ -55,7 +56,7 @@ impl<
             &self.3,
             (&self.4, (&self.5, (&self.6, ()))),
         );
-        fields.write_fields(ser, 0, names, refusal)
+        fields.write_fields(ser, keys, 0, refusal)
     }
 }
 
@@ -92,10 +93,10 @@ impl<
         fields.written()
     }
 
-    fn serialize_as_fields<W: Write>(
+    fn serialize_as_fields<W: Write, S: SerializeKeys>(
         &self,
         ser: &mut Serializer<W>,
-        names: &[&str],
+        keys: S,
         refusal: &mut Option<Error>,
     ) -> WriteDone {
         let fields = (
@@ -105,7 +106,7 @@ impl<
             &self.3,
             (&self.4, &self.5, &self.6, &self.7, ()),
         );
-        fields.write_fields(ser, 0, names, refusal)
+        fields.write_fields(ser, keys, 0, refusal)
     }
 }
 
@@ -144,10 +145,10 @@ impl<
         fields.written()
     }
 
-    fn serialize_as_fields<W: Write>(
+    fn serialize_as_fields<W: Write, S: SerializeKeys>(
         &self,
         ser: &mut Serializer<W>,
-        names: &[&str],
+        keys: S,
         refusal: &mut Option<Error>,
     ) -> WriteDone {
         let fields = (
@@ -157,7 +158,7 @@ impl<
             &self.3,
             (&self.4, &self.5, &self.6, &self.7, (&self.8, ())),
         );
-        fields.write_fields(ser, 0, names, refusal)
+        fields.write_fields(ser, keys, 0, refusal)
     }
 }
 
@@ -198,10 +199,10 @@ impl<
         fields.written()
     }
 
-    fn serialize_as_fields<W: Write>(
+    fn serialize_as_fields<W: Write, S: SerializeKeys>(
         &self,
         ser: &mut Serializer<W>,
-        names: &[&str],
+        keys: S,
         refusal: &mut Option<Error>,
     ) -> WriteDone {
         let fields = (
@@ -211,7 +212,7 @@ impl<
             &self.3,
             (&self.4, &self.5, &self.6, &self.7, (&self.8, (&self.9, ()))),
         );
-        fields.write_fields(ser, 0, names, refusal)
+        fields.write_fields(ser, keys, 0, refusal)
     }
 }
 
@@ -260,10 +261,10 @@ impl<
         fields.written()
     }
 
-    fn serialize_as_fields<W: Write>(
+    fn serialize_as_fields<W: Write, S: SerializeKeys>(
         &self,
         ser: &mut Serializer<W>,
-        names: &[&str],
+        keys: S,
         refusal: &mut Option<Error>,
     ) -> WriteDone {
         let fields = (
@@ -279,7 +280,7 @@ impl<
                 (&self.8, (&self.9, (&self.10, ()))),
             ),
         );
-        fields.write_fields(ser, 0, names, refusal)
+        fields.write_fields(ser, keys, 0, refusal)
     }
 }
 
@@ -330,10 +331,10 @@ impl<
         fields.written()
     }
 
-    fn serialize_as_fields<W: Write>(
+    fn serialize_as_fields<W: Write, S: SerializeKeys>(
         &self,
         ser: &mut Serializer<W>,
-        names: &[&str],
+        keys: S,
         refusal: &mut Option<Error>,
     ) -> WriteDone {
         let fields = (
@@ -349,6 +350,6 @@ impl<
                 (&self.8, &self.9, &self.10, &self.11, ()),
             ),
         );
-        fields.write_fields(ser, 0, names, refusal)
+        fields.write_fields(ser, keys, 0, refusal)
     }
 }

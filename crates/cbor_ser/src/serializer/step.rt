@@ -1,18 +1,18 @@
 //! Writing as the calls of this crate do that write many items: an error is left with the caller.
 
-ghost use Rattle.std.specs.Prelude.{◌++◌, length, pos, Some};
+ghost use Rattle.std.specs.Prelude.{◌++◌, length, pos, Some, IfSome};
 ghost use Rattle.cbor_model.specs.Document.{bool, bytes, document_of, integer, null, text};
 ghost use Rattle.cbor_model.specs.Document.{unit_variant};
 ghost use Rattle.cbor_model.specs.Head.{short};
-ghost use Rattle.cbor_model.specs.Parts.{Part, array_head, field_part, item, map_head};
+ghost use Rattle.cbor_model.specs.Parts.{Part, array_head, both, field_part, item, map_head};
 ghost use Rattle.cbor_io.specs.Head.{major_number};
 ghost use Rattle.cbor_value.specs.View.{float_view};
 ghost use Rattle.cbor_ser.specs.Documents.{key_document};
 ghost use Rattle.cbor_ser.specs.Serialized.{Spells, Stepped};
 
 use super::{Serializer, as_set, integer_head};
+use crate::field::SerializeField;
 use crate::items::{WriteDone, put, put_float, put_head, put_string};
-use crate::serialize::Serialize;
 use cbor_io::error::Error;
 use cbor_io::head::Major;
 use cbor_io::write::Write;
@@ -126,19 +126,43 @@ impl<W: Write> Serializer<W> {
         self.head_step(Major::Map, len as u64, refusal)
     }
 
-    // Appends the identifier of a field, and what it holds.
-    pub(crate) fn field_step<T: Serialize>(
+    // Appends a field that is written: what identifies it, and what it holds.
+    pub(crate) fn field_step<A: SerializeField>(
         &mut self,
         number: u32,
         name: &str,
-        v: &T,
+        field: &A,
         refusal: &mut Option<Error>,
     ) -> WriteDone
-        ensures { Stepped W.written W.refuses W.references W.capacity self.old
-            (field_part number name.now (T.document v.now)) self.new result refusal.new }
+        ensures { IfSome (A.document field.now) (λ d.
+            Stepped W.written W.refuses W.references W.capacity self.old
+            (field_part number name.now d) self.new result refusal.new) }
     {
         self.identifier_step(number, name, refusal)?;
-        v.serialize_step(self, refusal)
+        field.serialize_content(self, refusal)
+    }
+
+    // The same by a label.
+    pub(crate) fn labelled_step<A: SerializeField>(
+        &mut self,
+        label: i64,
+        field: &A,
+        refusal: &mut Option<Error>,
+    ) -> WriteDone
+        ensures { IfSome (A.document field.now) (λ d.
+            Stepped W.written W.refuses W.references W.capacity self.old
+            (both (item (integer label)) (item d)) self.new result refusal.new) }
+    {
+        self.label_step(label, refusal)?;
+        field.serialize_content(self, refusal)
+    }
+
+    // Appends a label.
+    fn label_step(&mut self, label: i64, refusal: &mut Option<Error>) -> WriteDone
+        ensures { Stepped W.written W.refuses W.references W.capacity self.old (item (integer label))
+            self.new result refusal.new }
+    {
+        self.signed_step(label, refusal)
     }
 
     // Appends what identifies a field: its name, or its number where the format is packed.

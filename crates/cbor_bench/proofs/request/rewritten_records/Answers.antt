@@ -7,7 +7,7 @@ use Rattle.serde_cbor.specs.Raw.{Raw, Raws, no_raws}
 use Rattle.serde_cbor.specs.Arrays.{AsArray, AreRead}
 use Rattle.serde_cbor.specs.Document.{docs, IsStorableDocument, AreStorableDocuments}
 use Rattle.serde_cbor.specs.Maps.{AsMap}
-use Rattle.serde_cbor.specs.Structs.{AreFieldsOf}
+use Rattle.serde_cbor.specs.Structs.{AreFieldsOf, IsField}
 use Rattle.serde_cbor.specs.Readable.{untagged}
 use Rattle.cbor_bench.specs.Record.{names, fields, values, IsRecord, text_of, record_document}
 use Rattle.cbor_bench.specs.declared.record.Record.{Record}
@@ -18,7 +18,7 @@ texts_fit : (xs : List (String Global)) → AreStorableDocuments (docs text_of x
 texts_fit [] = tt
 texts_fit (x ∷ xs) = (tt, texts_fit xs)
 
-record_fits : (r : Raw) (x : Record) → AsMap (AreFieldsOf names fields) r (values x) → IsStorableDocument (record_document x)
+record_fits : (r : Raw) (x : Record) → AsMap (AreFieldsOf (IsField names) fields) r (values x) → IsStorableDocument (record_document x)
 record_fits (raw.unsigned w n) x h = absurd h
 record_fits (raw.negative w n) x h = absurd h
 record_fits (raw.bytes c) x h = absurd h

@@ -5,7 +5,7 @@ use Rattle.cbor_io.specs.declared.error.Error.{Error}
 use Rattle.cbor_decode_as.specs.Takes.{lending}
 use Rattle.cbor_de.specs.Streams.{StreamGives, standing, begun}
 use Rattle.cbor_de.specs.declared.stream.StreamDeserializer.{StreamDeserializer}
-use Rattle.cbor_de.proofs.StreamAnswers.{yields_along, Begun, begun_is, items_given, error_given}
+use Rattle.cbor_de.proofs.inputs.StreamAnswers.{yields_along, Begun, begun_is, items_given, error_given}
 use Rattle.cbor_de.proofs.all_items.read_items.Goals as goal
 
 pub returns-clause-found : goal.returns-clause-found

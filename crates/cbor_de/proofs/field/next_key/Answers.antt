@@ -1,5 +1,5 @@
 use Rattle.cbor_decode_as.proofs.facts.Places.{made_alone}
-use Rattle.cbor_de.proofs.Forms.{key_reported}
+use Rattle.cbor_de.proofs.refusals.Forms.{key_reported}
 use Rattle.cbor_decode_as.specs.Takes.{formats_of}
 use Rattle.cbor_de.proofs.field.next_key.Goals as goal
 

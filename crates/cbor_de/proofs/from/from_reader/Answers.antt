@@ -5,11 +5,11 @@ use Rattle.cbor_read.specs.Source.{Input, start_of_reader, reader_refusals}
 use Rattle.cbor_decode.specs.Gives.{Reports}
 use Rattle.cbor_decode_as.specs.Takes.{MemoryFor}
 use Rattle.cbor_de.specs.Whole.{ReadsAll, ReportsWhole, from_reader_context, from_reader_asks}
-use Rattle.cbor_de.proofs.Every.{every_or_fault}
-use Rattle.cbor_de.proofs.Faults.{fails_or_faults}
-use Rattle.cbor_de.proofs.PassedOver.{passed_over_by_reader}
-use Rattle.cbor_de.proofs.Inputs.{found, accepted_or_fault, asked_or_fault}
-use Rattle.cbor_de.proofs.FirstRefusals.{first_from_reader}
+use Rattle.cbor_de.proofs.refusals.Every.{every_or_fault}
+use Rattle.cbor_de.proofs.refusals.Faults.{fails_or_faults}
+use Rattle.cbor_de.proofs.refusals.PassedOver.{passed_over_by_reader}
+use Rattle.cbor_de.proofs.inputs.Inputs.{found, accepted_or_fault, asked_or_fault}
+use Rattle.cbor_de.proofs.refusals.FirstRefusals.{first_from_reader}
 use Rattle.cbor_de.specs.Forms.{MayReport}
 use Rattle.cbor_de.proofs.from.from_reader.Goals as goal
 

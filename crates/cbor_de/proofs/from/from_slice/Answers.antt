@@ -6,11 +6,11 @@ use Rattle.cbor_read.specs.Source.{Input, start_of_slice, slice_refusals}
 use Rattle.cbor_decode.specs.Gives.{Reports}
 use Rattle.cbor_decode_as.specs.Takes.{MemoryFor}
 use Rattle.cbor_de.specs.Whole.{ReadsAll, ReportsWhole, from_slice_context, from_slice_asks}
-use Rattle.cbor_de.proofs.Every.{every}
-use Rattle.cbor_de.proofs.Faults.{fails}
-use Rattle.cbor_de.proofs.PassedOver.{passed_over}
-use Rattle.cbor_de.proofs.Inputs.{found, accepted, asked}
-use Rattle.cbor_de.proofs.FirstRefusals.{first}
+use Rattle.cbor_de.proofs.refusals.Every.{every}
+use Rattle.cbor_de.proofs.refusals.Faults.{fails}
+use Rattle.cbor_de.proofs.refusals.PassedOver.{passed_over}
+use Rattle.cbor_de.proofs.inputs.Inputs.{found, accepted, asked}
+use Rattle.cbor_de.proofs.refusals.FirstRefusals.{first}
 use Rattle.cbor_de.specs.Forms.{MayReport}
 use Rattle.cbor_de.proofs.from.from_slice.Goals as goal
 

@@ -6,12 +6,12 @@ use Rattle.cbor_read.specs.Source.{Input, start_of_slice, fixed_refusals}
 use Rattle.cbor_decode.specs.Gives.{Reports}
 use Rattle.cbor_decode_as.specs.Takes.{MemoryFor}
 use Rattle.cbor_de.specs.Whole.{ReadsAll, ReportsWhole, from_slice_context, asks_none}
-use Rattle.cbor_de.proofs.Every.{every, small}
+use Rattle.cbor_de.proofs.refusals.Every.{every, small}
 use Rattle.cbor_model.proofs.facts.Laws.{scratch_need}
-use Rattle.cbor_de.proofs.Faults.{fails}
-use Rattle.cbor_de.proofs.PassedOver.{passed_over}
-use Rattle.cbor_de.proofs.Inputs.{found, accepted, asked}
-use Rattle.cbor_de.proofs.FirstRefusals.{first}
+use Rattle.cbor_de.proofs.refusals.Faults.{fails}
+use Rattle.cbor_de.proofs.refusals.PassedOver.{passed_over}
+use Rattle.cbor_de.proofs.inputs.Inputs.{found, accepted, asked}
+use Rattle.cbor_de.proofs.refusals.FirstRefusals.{first}
 use Rattle.cbor_de.specs.Forms.{MayReport}
 use Rattle.cbor_de.proofs.from.from_slice_with_scratch.Goals as goal
 

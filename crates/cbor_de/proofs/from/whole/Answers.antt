@@ -1,9 +1,9 @@
 use Rattle.cbor_read.specs.Source.{asks_for}
 use Rattle.cbor_decode_as.specs.Takes.{context, formats_of}
 use Rattle.cbor_io.specs.Error.{code_of, offset_of}
-use Rattle.cbor_de.proofs.Forms.{end_form, plain}
-use Rattle.cbor_de.proofs.Faults.{item_whole, end_whole}
-use Rattle.cbor_de.proofs.Inputs.{all_refused, end_other}
+use Rattle.cbor_de.proofs.refusals.Forms.{end_form, plain}
+use Rattle.cbor_de.proofs.refusals.Faults.{item_whole, end_whole}
+use Rattle.cbor_de.proofs.inputs.Inputs.{all_refused, end_other}
 use Rattle.cbor_decode_as.proofs.facts.Refusals.{other_code}
 use Rattle.cbor_de.proofs.from.whole.Goals as goal
 

@@ -1,9 +1,9 @@
 use Rattle.std.proofs.Common.{Ok}
 use Rattle.cbor_decode.specs.declared.formats.Formats.{Formats}
 use Rattle.cbor_decode_as.specs.Takes.{context}
-use Rattle.cbor_de.proofs.AtHand.{read_here, forms_here}
-use Rattle.cbor_de.proofs.ItemLists.{part_answer}
-use Rattle.cbor_de.proofs.Forms.{later_err}
+use Rattle.cbor_de.proofs.parts.AtHand.{read_here, forms_here}
+use Rattle.cbor_de.proofs.parts.ItemLists.{part_answer}
+use Rattle.cbor_de.proofs.refusals.Forms.{later_err}
 use Rattle.cbor_de.proofs.item_list.next_part.Goals as goal
 
 pub returns-in-Some-clause-read : goal.returns-in-Some-clause-read

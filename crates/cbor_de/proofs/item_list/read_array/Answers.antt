@@ -2,8 +2,8 @@ use Rattle.std.proofs.Common.{Ok, Err}
 use Rattle.cbor_decode.specs.declared.formats.Formats.{Formats}
 use Rattle.cbor_decode_as.specs.Takes.{context, formats_of}
 use Rattle.cbor_decode_as.proofs.facts.Arrays.{no_array_read}
-use Rattle.cbor_de.proofs.ItemLists.{array_answer}
-use Rattle.cbor_de.proofs.Forms.{later_in}
+use Rattle.cbor_de.proofs.parts.ItemLists.{array_answer}
+use Rattle.cbor_de.proofs.refusals.Forms.{later_in}
 use Rattle.cbor_de.proofs.item_list.read_array.Goals as goal
 
 pub returns-in-Err-clause-read : goal.returns-in-Err-clause-read

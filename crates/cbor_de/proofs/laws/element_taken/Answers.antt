@@ -1,5 +1,5 @@
 use Rattle.cbor_decode_as.specs.Takes.{lending}
-use Rattle.cbor_de.proofs.PartTaken.{element_taken}
+use Rattle.cbor_de.proofs.taken.PartTaken.{element_taken}
 use Rattle.cbor_de.proofs.laws.element_taken.Goals as goal
 
 pub returns : goal.returns

@@ -1,4 +1,4 @@
-use Rattle.cbor_de.proofs.PartTaken as parts
+use Rattle.cbor_de.proofs.taken.PartTaken as parts
 use Rattle.cbor_de.proofs.laws.end_taken.Goals as goal
 
 pub returns-clause-arrays : goal.returns-clause-arrays

@@ -1,4 +1,4 @@
-use Rattle.cbor_de.proofs.FirstRefusals.{first_is_fault}
+use Rattle.cbor_de.proofs.refusals.FirstRefusals.{first_is_fault}
 use Rattle.cbor_de.proofs.laws.first_is_fault.Goals as goal
 
 pub returns : goal.returns

@@ -1,5 +1,5 @@
 use Rattle.cbor_decode.specs.declared.head.Head.TheVariants.{Array, Map}
-use Rattle.cbor_de.proofs.HeadsTaken.{arrays, maps, heads_taken}
+use Rattle.cbor_de.proofs.taken.HeadsTaken.{arrays, maps, heads_taken}
 use Rattle.cbor_de.proofs.laws.heads_taken.Goals as goal
 
 pub returns-clause-arrays : goal.returns-clause-arrays

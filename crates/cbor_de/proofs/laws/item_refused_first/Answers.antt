@@ -3,7 +3,7 @@ use Rattle.cbor_decode.specs.Gives.{ReportsIo, values}
 use Rattle.cbor_decode.proofs.facts.FirstRefusal.{item_first}
 use Rattle.cbor_model.specs.Reader.{item_at}
 use Rattle.cbor_decode_as.specs.Takes.{ReportsFault}
-use Rattle.cbor_de.proofs.Faults.{where_map}
+use Rattle.cbor_de.proofs.refusals.Faults.{where_map}
 use Rattle.cbor_de.proofs.laws.item_refused_first.Goals as goal
 
 pub returns : goal.returns

@@ -1,5 +1,5 @@
 use Rattle.cbor_decode_as.specs.Takes.{lending}
-use Rattle.cbor_de.proofs.Taken.{item_taken}
+use Rattle.cbor_de.proofs.taken.Taken.{item_taken}
 use Rattle.cbor_de.proofs.laws.item_taken.Goals as goal
 
 pub returns : goal.returns

@@ -1,5 +1,5 @@
 use Rattle.cbor_decode_as.specs.Takes.{lending}
-use Rattle.cbor_de.proofs.PartTaken.{key_taken}
+use Rattle.cbor_de.proofs.taken.PartTaken.{key_taken}
 use Rattle.cbor_de.proofs.laws.key_taken.Goals as goal
 
 pub returns : goal.returns

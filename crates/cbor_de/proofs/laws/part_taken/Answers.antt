@@ -1,5 +1,5 @@
 use Rattle.cbor_decode_as.specs.Takes.{lending}
-use Rattle.cbor_de.proofs.ContentTaken.{part_taken}
+use Rattle.cbor_de.proofs.taken.ContentTaken.{part_taken}
 use Rattle.cbor_de.proofs.laws.part_taken.Goals as goal
 
 pub returns : goal.returns

@@ -1,4 +1,4 @@
-use Rattle.cbor_de.proofs.TagTaken as tags
+use Rattle.cbor_de.proofs.taken.TagTaken as tags
 use Rattle.cbor_de.proofs.laws.tag_taken.Goals as goal
 
 pub returns : goal.returns

@@ -1,5 +1,5 @@
 use Rattle.cbor_decode_as.specs.Takes.{lending}
-use Rattle.cbor_de.proofs.ContentTaken.{newtype_taken}
+use Rattle.cbor_de.proofs.taken.ContentTaken.{newtype_taken}
 use Rattle.cbor_de.proofs.laws.variant_newtype_taken.Goals as goal
 
 pub returns : goal.returns

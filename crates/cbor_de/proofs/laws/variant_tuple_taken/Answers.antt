@@ -1,4 +1,4 @@
-use Rattle.cbor_de.proofs.VariantTaken as variants
+use Rattle.cbor_de.proofs.taken.VariantTaken as variants
 use Rattle.cbor_de.proofs.laws.variant_tuple_taken.Goals as goal
 
 pub returns : goal.returns

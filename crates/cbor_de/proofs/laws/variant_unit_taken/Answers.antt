@@ -1,4 +1,4 @@
-use Rattle.cbor_de.proofs.ContentTaken as contents
+use Rattle.cbor_de.proofs.taken.ContentTaken as contents
 use Rattle.cbor_de.proofs.laws.variant_unit_taken.Goals as goal
 
 pub returns : goal.returns

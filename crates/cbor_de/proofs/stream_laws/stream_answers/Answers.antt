@@ -1,5 +1,5 @@
 use Rattle.cbor_decode_as.specs.Takes.{lending}
-use Rattle.cbor_de.proofs.StreamAnswers as proved
+use Rattle.cbor_de.proofs.inputs.StreamAnswers as proved
 use Rattle.cbor_de.proofs.stream_laws.stream_answers.Goals as goal
 
 pub returns : goal.returns

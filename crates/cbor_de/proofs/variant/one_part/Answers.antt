@@ -1,6 +1,6 @@
 use Rattle.cbor_decode_as.specs.Takes.{context, formats_of}
 use Rattle.cbor_decode_as.proofs.facts.Enums.{one_answer, untold}
-use Rattle.cbor_de.proofs.Forms.{part_err}
+use Rattle.cbor_de.proofs.refusals.Forms.{part_err}
 use Rattle.cbor_de.proofs.variant.one_part.Goals as goal
 
 pub returns-in-Array-clause-read : goal.returns-in-Array-clause-read

@@ -4,7 +4,7 @@ use Rattle.cbor_model.specs.Formats.{Formats}
 use Rattle.cbor_model.specs.Readable.{PassesTags}
 use Rattle.cbor_io.specs.Error.{code_of, offset_of}
 use Rattle.cbor_read.specs.Source.{Input}
-use Rattle.cbor_decode_as.specs.Identifiers.{texts, IsIdentifier, IsMadeBy}
+use Rattle.cbor_decode_as.specs.Identifiers.{texts, IsIdentifier, IsPlaceNumber, IsMadeBy}
 use Rattle.cbor_decode_as.specs.Takes.{formats_of, OnceMade, TakesItem}
 use Rattle.cbor_decode_as.proofs.heads.Opened.{text_opened}
 use Rattle.cbor_decode_as.proofs.texts.Lending.{text_refuses}
@@ -32,7 +32,7 @@ returns-in_ok-definite_name-in-Some-clause-read g c =
     let t = g.R.Source.source c.definite_name.new.decoder.source in
     let opened = text_opened g.R.Source.refusals f s m old.levels c.in-Some.n u.refusal c.in-Some.ensures.read in
     let named = c.in_ok-definite_name-in-Some.ensures.read in
-    text_names (texts c.args.names.now) g.R.Source.refusals f g.R.Source.lends old.levels s m u.refusal (Some c.in-Some.n) t named.0 c.in_ok-definite_name-in-Some.field-0 named.1 named.2 opened named.3
+    text_names (IsPlaceNumber (texts c.args.names.now)) (texts c.args.names.now) g.R.Source.refusals f g.R.Source.lends old.levels s m u.refusal (Some c.in-Some.n) t named.0 c.in_ok-definite_name-in-Some.field-0 named.1 named.2 opened named.3
 
 pub returns-in-None-clause-read : goal.returns-in-None-clause-read
 returns-in-None-clause-read g c =

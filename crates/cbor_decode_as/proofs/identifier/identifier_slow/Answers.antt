@@ -1,11 +1,11 @@
-use Rattle.std.proofs.Common.{Ok, ap, subst}
+use Rattle.std.proofs.Common.{Ok, ap, subst, inr}
 use Rattle.std.proofs.lemmas.Result.{err_from_is_err_and}
 use Rattle.cbor_model.specs.Readable.{PassesTags}
 use Rattle.cbor_model.specs.Reader.{item_at}
 use Rattle.cbor_io.specs.Error.{code_of, offset_of}
 use Rattle.cbor_decode.specs.declared.head.Head.{Head}
 use Rattle.cbor_decode.proofs.facts.Steps.{took_same}
-use Rattle.cbor_decode_as.specs.Identifiers.{texts, IsIdentifier}
+use Rattle.cbor_decode_as.specs.Identifiers.{texts, IsIdentifier, IsPlaceNumber}
 use Rattle.cbor_decode_as.specs.TaggedHeads.{TakesItemHead}
 use Rattle.cbor_decode_as.specs.Takes.{formats_of, raws}
 use Rattle.cbor_decode_as.proofs.numbers.Scalars.{refuses, refuses_on}
@@ -21,7 +21,7 @@ returns-in-Unsigned-clause-read g c =
     let s = g.R.Source.source old.source in
     let m = g.R.Source.source u.source in
     let opened = subst (λ (h : Head). TakesItemHead g.R.Source.refusals f old.levels s m u.refusal (Ok h)) c.in-Unsigned.is c.in_ok-found.ensures.read in
-    number_names (texts c.args.names.now) g.R.Source.refusals f g.R.Source.lends old.levels s m u.refusal c.in-Unsigned.n c.place_of_number.result c.place_of_number.ensures.place opened
+    number_names (IsPlaceNumber (texts c.args.names.now)) (texts c.args.names.now) g.R.Source.refusals f g.R.Source.lends old.levels s m u.refusal c.in-Unsigned.n c.place_of_number.result c.place_of_number.ensures.place opened
 
 pub returns-in_ok-text_name-in-Text-clause-read : goal.returns-in_ok-text_name-in-Text-clause-read
 returns-in_ok-text_name-in-Text-clause-read g c =
@@ -33,7 +33,7 @@ returns-in_ok-text_name-in-Text-clause-read g c =
     let t = g.R.Source.source c.text_name.new.decoder.source in
     let opened = subst (λ (h : Head). TakesItemHead g.R.Source.refusals f old.levels s m u.refusal (Ok h)) c.in-Text.is c.in_ok-found.ensures.read in
     let named = c.in_ok-text_name-in-Text.ensures.read in
-    text_names (texts c.args.names.now) g.R.Source.refusals f g.R.Source.lends old.levels s m u.refusal c.in-Text.n t named.0 c.in_ok-text_name-in-Text.field-0 named.1 named.2 opened named.3
+    text_names (IsPlaceNumber (texts c.args.names.now)) (texts c.args.names.now) g.R.Source.refusals f g.R.Source.lends old.levels s m u.refusal c.in-Text.n t named.0 c.in_ok-text_name-in-Text.field-0 named.1 named.2 opened named.3
 
 pub returns-in_err-text_name-in-Text-clause-read : goal.returns-in_err-text_name-in-Text-clause-read
 returns-in_err-text_name-in-Text-clause-read g c =
@@ -56,7 +56,7 @@ returns-in-Bytes-clause-read g c =
     let m = g.R.Source.source u.source in
     let t = g.R.Source.source new.source in
     let opened = subst (λ (h : Head). TakesItemHead g.R.Source.refusals f old.levels s m u.refusal (Ok h)) c.in-Bytes.is c.in_ok-found.ensures.read in
-    bytes_read (texts c.args.names.now) g.R.Source.refusals f g.R.Source.lends old.levels s m u.refusal c.in-Bytes.n t new.refusal c.bytes_name.result opened c.bytes_name.ensures.read
+    bytes_read (IsPlaceNumber (texts c.args.names.now)) (texts c.args.names.now) g.R.Source.refusals f g.R.Source.lends old.levels s m u.refusal c.in-Bytes.n t new.refusal c.bytes_name.result opened c.bytes_name.ensures.read
 
 pub returns-in_default-clause-read : goal.returns-in_default-clause-read
 returns-in_default-clause-read g c =
@@ -65,7 +65,7 @@ returns-in_default-clause-read g c =
     let f = formats_of old.formats in
     let s = g.R.Source.source old.source in
     let m = g.R.Source.source u.source in
-    λ e made. refuses_on (other_refused (texts c.args.names.now) g.R.Source.refusals f g.R.Source.lends old.levels s m u.refusal c.in_ok-found.found.head e c.in_default.not-Unsigned c.in_default.not-Text c.in_default.not-Bytes c.in_ok-found.ensures.read) (took_same (ap g.R.Source.source c.no_name.ensures.source))
+    λ e made. refuses_on (other_refused (IsPlaceNumber (texts c.args.names.now)) (texts c.args.names.now) g.R.Source.refusals f g.R.Source.lends old.levels s m u.refusal c.in_ok-found.found.head e c.in_default.not-Unsigned (inr (λ n place is. is)) c.in_default.not-Text c.in_default.not-Bytes c.in_ok-found.ensures.read) (took_same (ap g.R.Source.source c.no_name.ensures.source))
 
 pub returns-in_err-found-clause-read : goal.returns-in_err-found-clause-read
 returns-in_err-found-clause-read g c =

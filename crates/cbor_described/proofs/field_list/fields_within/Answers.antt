@@ -2,12 +2,13 @@ use Rattle.std.proofs.Common.{◌≡◌, ◌∙◌, Ok, Err, refl}
 use Rattle.cbor_io.specs.Error.{code_of, offset_of}
 use Rattle.cbor_decode.specs.declared.formats.Formats.{Formats}
 use Rattle.cbor_described.specs.FieldLists.{FieldTaken, FieldRefused}
-use Rattle.cbor_decode_as.specs.Identifiers.{texts}
+use Rattle.cbor_parts.specs.Keys.{keys_of}
 use Rattle.cbor_decode_as.specs.Takes.{context, formats_of}
 use Rattle.std.proofs.Common.{rules, subst, arith}
 use Rattle.std.proofs.lemmas.Result.{err_from_is_err_and}
 use Rattle.cbor_de.proofs.facts.Structs.{no_struct, no_field_named, field_named, other_passed, other_unread, field_missing, end_unread, struct_held}
-use Rattle.cbor_de.proofs.facts.Structs.{unknown_other}
+use Rattle.cbor_de.proofs.facts.Structs.{keyed_one, unknown_other}
+use Rattle.cbor_de.specs.Structs.{IsKeyed}
 use Rattle.cbor_read.specs.Source.{Input}
 use Rattle.cbor_described.proofs.FieldLists.{unread, begins_with, value_in, value_not_in, lacking_is, taken_from}
 use Rattle.cbor_de.specs.Forms.{MayReport, any_of, key_form, never}
@@ -20,11 +21,12 @@ use Rattle.cbor_described.proofs.field_list.fields_within.Goals as goal
 pub returns-in_err-remaining-clause-read : goal.returns-in_err-remaining-clause-read
 returns-in_err-remaining-clause-read g c =
     let old = c.args.de.now.decoder in
-    let names = texts c.args.names.now in
+    let keys = keys_of c.args.keys.now in
+    let keyed = IsKeyed keys in
     let fields = g.F.FieldList.fields (context old.formats g.R.Source.lends) in
     let e = c.in_err-remaining.field-0.0 in
-    unread names fields g.R.Source.refusals old.formats old.levels (g.R.Source.source old.source) _ e c.from_residual.result c.from_residual.ensures.1
-    (no_struct names fields g.R.Source.refusals (g.R.Source.source old.source) old.formats old.levels e c.in_err-remaining.ensures.read) (search rules)
+    unread keyed fields g.R.Source.refusals old.formats old.levels (g.R.Source.source old.source) _ e c.from_residual.result c.from_residual.ensures.1
+    (no_struct keyed fields g.R.Source.refusals (g.R.Source.source old.source) old.formats old.levels e c.in_err-remaining.ensures.read) (search rules)
 
 pub fields-init : goal.fields-init
 fields-init g c =
@@ -32,7 +34,7 @@ fields-init g c =
     record {
       formats = c.in_ok-remaining.ensures.formats;
       advances = c.in_ok-remaining.ensures.taken;
-      so_far = begins_with (texts c.args.names.now) (g.F.FieldList.fields k) _ (c.none-held.ensures k) c.in_ok-remaining.ensures.read c.in_ok-remaining.ensures.formats;
+      so_far = begins_with (IsKeyed (keys_of c.args.keys.now)) (g.F.FieldList.fields k) _ (c.none-held.ensures k) c.in_ok-remaining.ensures.read c.in_ok-remaining.ensures.formats;
     }
 
 -- ---- the next key
@@ -40,22 +42,24 @@ fields-init g c =
 pub returns-in_err-field-clause-read : goal.returns-in_err-field-clause-read
 returns-in_err-field-clause-read g c =
     let old = c.args.de.now.decoder in
-    let names = texts c.args.names.now in
+    let keys = keys_of c.args.keys.now in
+    let keyed = IsKeyed keys in
     let fields = g.F.FieldList.fields (context old.formats g.R.Source.lends) in
     let e = c.in_err-field.field-0.0 in
-    unread names fields g.R.Source.refusals old.formats old.levels (g.R.Source.source old.source) _ e c.from_residual-in_err-field.result c.from_residual-in_err-field.ensures.1
-    (no_field_named names fields c.fields.invariant.so_far refl g.R.Source.refusals (code_of e) (offset_of e) c.in_err-field.ensures.read) (search rules)
+    unread keyed fields g.R.Source.refusals old.formats old.levels (g.R.Source.source old.source) _ e c.from_residual-in_err-field.result c.from_residual-in_err-field.ensures.1
+    (no_field_named keyed fields c.fields.invariant.so_far g.R.Source.refusals (code_of e) (offset_of e) c.in_err-field.ensures.read) (search rules)
 
 -- ---- its value
 
 pub fields-preserved-then-take_at_hand : goal.fields-preserved-then-take_at_hand
 fields-preserved-then-take_at_hand g c =
     let i = c.fields.invariant in
-    let names = texts c.args.names.now in
+    let keys = keys_of c.args.keys.now in
+    let keyed = IsKeyed keys in
     let fields = λ (f : Formats). g.F.FieldList.fields (context f g.R.Source.lends) in
     let slots = λ (f : Formats). g.F.FieldList.slots (context f g.R.Source.lends) in
     let next = c.in_ok-field.ensures in
-    let key = field_named names (fields c.args.de.now.decoder.formats) i.so_far c.in_ok-field.field-0 c.in-Some.field c.in-Some.is refl c.next_key.new.remaining next.read next.settings.formats next.settings.levels in
+    let key = field_named keyed (fields c.args.de.now.decoder.formats) i.so_far c.in_ok-field.field-0 c.in-Some.field c.in-Some.is c.next_key.new.remaining next.read next.settings.formats next.settings.levels in
     let now = c.next_key.new.de.decoder in
     let done = c.take_at_hand.ensures in
     let named = advances_some _ _ _ i.advances next.read.took in
@@ -64,17 +68,18 @@ fields-preserved-then-take_at_hand g c =
     record {
       formats = done.settings.formats ∙ next.settings.formats ∙ i.formats;
       advances = record { further = omega (arith, named.further, done.forward); counted = named.counted };
-      so_far = value_in names (fields c.args.de.now.decoder.formats) key c.in-Known.i c.in-Known.is done.settings.formats done.settings.levels refl (slots c.args.de.now.decoder.formats c.take_at_hand.new.held) taken;
+      so_far = value_in keyed (fields c.args.de.now.decoder.formats) key c.in-Known.i c.in-Known.is (keyed_one keys) done.settings.formats done.settings.levels refl (slots c.args.de.now.decoder.formats c.take_at_hand.new.held) taken;
     }
 
 pub fields-preserved-in-Continue-branch-4 : goal.fields-preserved-in-Continue-branch-4
 fields-preserved-in-Continue-branch-4 g c =
     let i = c.fields.invariant in
-    let names = texts c.args.names.now in
+    let keys = keys_of c.args.keys.now in
+    let keyed = IsKeyed keys in
     let fields = λ (f : Formats). g.F.FieldList.fields (context f g.R.Source.lends) in
     let slots = λ (f : Formats). g.F.FieldList.slots (context f g.R.Source.lends) in
     let next = c.in_ok-field.ensures in
-    let key = field_named names (fields c.args.de.now.decoder.formats) i.so_far c.in_ok-field.field-0 c.in-Some.field c.in-Some.is refl c.next_key.new.remaining next.read next.settings.formats next.settings.levels in
+    let key = field_named keyed (fields c.args.de.now.decoder.formats) i.so_far c.in_ok-field.field-0 c.in-Some.field c.in-Some.is c.next_key.new.remaining next.read next.settings.formats next.settings.levels in
     let now = c.next_key.new.de.decoder in
     let kept = c.take_at_hand.new.de.decoder in
     let none = c.take_at_hand.ensures in
@@ -88,18 +93,19 @@ fields-preserved-in-Continue-branch-4 g c =
     record {
       formats = done.settings.formats ∙ none.settings.formats ∙ next.settings.formats ∙ i.formats;
       advances = record { further = omega (arith, named.further, none.forward, done.forward); counted = named.counted };
-      so_far = value_in names (fields c.args.de.now.decoder.formats) key c.in-Known.i c.in-Known.is (done.settings.formats ∙ none.settings.formats) (done.settings.levels ∙ none.settings.levels) refl (slots c.args.de.now.decoder.formats c.take.new.held) taken;
+      so_far = value_in keyed (fields c.args.de.now.decoder.formats) key c.in-Known.i c.in-Known.is (keyed_one keys) (done.settings.formats ∙ none.settings.formats) (done.settings.levels ∙ none.settings.levels) refl (slots c.args.de.now.decoder.formats c.take.new.held) taken;
     }
 
 pub returns-in_err-take-in-Known-clause-read : goal.returns-in_err-take-in-Known-clause-read
 returns-in_err-take-in-Known-clause-read g c =
     let old = c.args.de.now.decoder in
     let i = c.fields.invariant in
-    let names = texts c.args.names.now in
+    let keys = keys_of c.args.keys.now in
+    let keyed = IsKeyed keys in
     let fields = λ (f : Formats). g.F.FieldList.fields (context f g.R.Source.lends) in
     let slots = λ (f : Formats). g.F.FieldList.slots (context f g.R.Source.lends) in
     let next = c.in_ok-field.ensures in
-    let key = field_named names (fields old.formats) i.so_far c.in_ok-field.field-0 c.in-Some.field c.in-Some.is refl c.next_key.new.remaining next.read next.settings.formats next.settings.levels in
+    let key = field_named keyed (fields old.formats) i.so_far c.in_ok-field.field-0 c.in-Some.field c.in-Some.is c.next_key.new.remaining next.read next.settings.formats next.settings.levels in
     let now = c.next_key.new.de.decoder in
     let kept = c.take_at_hand.new.de.decoder in
     let none = c.take_at_hand.ensures in
@@ -109,31 +115,33 @@ returns-in_err-take-in-Known-clause-read g c =
     let t = g.R.Source.source c.take.new.de.decoder.source in
     let read = taken_from fields slots g.R.Source.refusals now.formats kept.formats none.settings.formats now.levels kept.levels none.settings.levels c.fields.held c.take_at_hand.new.held c.take.new.held held (g.R.Source.source now.source) (g.R.Source.source kept.source) t here c.in-Known.i (Err e) c.in_err-take-in-Known.ensures.read in
     let refused = subst (λ (f : Formats). FieldRefused (formats_of now.formats) now.levels g.R.Source.refusals (fields f) c.in-Known.i (slots f c.fields.held) (g.R.Source.source now.source) t e) (next.settings.formats ∙ i.formats) read in
-    unread names (fields old.formats) g.R.Source.refusals old.formats old.levels (g.R.Source.source old.source) _ e c.from_residual-in_err-take-in-Known.result c.from_residual-in_err-take-in-Known.ensures.1
-    (value_not_in names (fields old.formats) key c.in-Known.i c.in-Known.is g.R.Source.refusals e refused) (search rules)
+    unread keyed (fields old.formats) g.R.Source.refusals old.formats old.levels (g.R.Source.source old.source) _ e c.from_residual-in_err-take-in-Known.result c.from_residual-in_err-take-in-Known.ensures.1
+    (value_not_in keyed (fields old.formats) key c.in-Known.i c.in-Known.is g.R.Source.refusals e refused) (search rules)
 
 pub fields-preserved : goal.fields-preserved
 fields-preserved g c =
     let i = c.fields.invariant in
-    let names = texts c.args.names.now in
+    let keys = keys_of c.args.keys.now in
+    let keyed = IsKeyed keys in
     let fields = g.F.FieldList.fields (context c.args.de.now.decoder.formats g.R.Source.lends) in
     let next = c.in_ok-field.ensures in
     let done = c.in_ok-skip_item-in-Unknown.ensures in
     record {
       formats = done.settings.formats ∙ next.settings.formats ∙ i.formats;
       advances = advances_some _ _ _ i.advances (took_then next.read.took done.read.took);
-      so_far = other_passed names fields i.so_far c.in_ok-field.field-0 c.in-Some.field c.in-Some.is refl c.next_key.new.remaining next.read next.settings.formats next.settings.levels done.settings.formats done.settings.levels refl (unknown_other fields c.in-Unknown.is) done.read;
+      so_far = other_passed keyed fields i.so_far c.in_ok-field.field-0 c.in-Some.field c.in-Some.is c.next_key.new.remaining next.read next.settings.formats next.settings.levels done.settings.formats done.settings.levels refl (keyed_one keys) (unknown_other fields c.in-Unknown.is) done.read;
     }
 
 pub returns-in_err-skip_item-in-Unknown-clause-read : goal.returns-in_err-skip_item-in-Unknown-clause-read
 returns-in_err-skip_item-in-Unknown-clause-read g c =
     let old = c.args.de.now.decoder in
-    let names = texts c.args.names.now in
+    let keys = keys_of c.args.keys.now in
+    let keyed = IsKeyed keys in
     let fields = g.F.FieldList.fields (context old.formats g.R.Source.lends) in
     let next = c.in_ok-field.ensures in
     let e = c.in_err-skip_item-in-Unknown.field-0.0 in
-    unread names fields g.R.Source.refusals old.formats old.levels (g.R.Source.source old.source) _ e c.from_residual-in_err-skip_item-in-Unknown.result c.from_residual-in_err-skip_item-in-Unknown.ensures.1
-    (other_unread names fields c.fields.invariant.so_far c.in_ok-field.field-0 c.in-Some.field c.in-Some.is refl c.next_key.new.remaining next.read next.settings.formats next.settings.levels g.R.Source.refusals (code_of e) (offset_of e) c.in_err-skip_item-in-Unknown.ensures.read) (search rules)
+    unread keyed fields g.R.Source.refusals old.formats old.levels (g.R.Source.source old.source) _ e c.from_residual-in_err-skip_item-in-Unknown.result c.from_residual-in_err-skip_item-in-Unknown.ensures.1
+    (other_unread keyed fields c.fields.invariant.so_far c.in_ok-field.field-0 c.in-Some.field c.in-Some.is c.next_key.new.remaining next.read next.settings.formats next.settings.levels g.R.Source.refusals (code_of e) (offset_of e) c.in_err-skip_item-in-Unknown.ensures.read) (search rules)
 
 -- ---- the end
 
@@ -141,28 +149,30 @@ pub returns-in_err-parts-clause-read : goal.returns-in_err-parts-clause-read
 returns-in_err-parts-clause-read g c =
     let old = c.args.de.now.decoder in
     let k = context old.formats g.R.Source.lends in
-    let names = texts c.args.names.now in
+    let keys = keys_of c.args.keys.now in
+    let keyed = IsKeyed keys in
     let fields = g.F.FieldList.fields k in
     let e = c.in_err-parts.field-0.0 in
     let lacking = lacking_is fields (g.F.FieldList.slots k c.fields.held) (c.in_err-parts.ensures.lacking k) in
-    unread names fields g.R.Source.refusals old.formats old.levels (g.R.Source.source old.source) _ e c.from_residual-in_err-parts.result c.from_residual-in_err-parts.ensures.1
-    (field_missing names fields c.fields.invariant.so_far c.in_ok-field.field-0 c.in_default.is refl c.next_key.new.remaining c.in_ok-field.ensures.read g.R.Source.refusals (code_of e) (offset_of e) lacking.0 lacking.1) (search rules)
+    unread keyed fields g.R.Source.refusals old.formats old.levels (g.R.Source.source old.source) _ e c.from_residual-in_err-parts.result c.from_residual-in_err-parts.ensures.1
+    (field_missing keyed fields c.fields.invariant.so_far c.in_ok-field.field-0 c.in_default.is c.next_key.new.remaining c.in_ok-field.ensures.read g.R.Source.refusals (code_of e) (offset_of e) lacking.0 lacking.1) (search rules)
 
 pub returns-in_err-end_map-clause-read : goal.returns-in_err-end_map-clause-read
 returns-in_err-end_map-clause-read g c =
     let old = c.args.de.now.decoder in
-    let names = texts c.args.names.now in
+    let keys = keys_of c.args.keys.now in
+    let keyed = IsKeyed keys in
     let fields = g.F.FieldList.fields (context old.formats g.R.Source.lends) in
     let e = c.in_err-end_map.field-0.0 in
     let nothing = rw c.in_default.is at c.in_ok-field.ensures.remains in
-    unread names fields g.R.Source.refusals old.formats old.levels (g.R.Source.source old.source) _ e c.from_residual-in_err-end_map.result c.from_residual-in_err-end_map.ensures.1
-    (end_unread names fields c.fields.invariant.so_far c.in_ok-field.field-0 c.in_default.is refl c.next_key.new.remaining c.in_ok-field.ensures.read g.R.Source.refusals (g.R.Source.source c.end_map.new.de.decoder.source) e nothing c.in_err-end_map.ensures.read) (search rules)
+    unread keyed fields g.R.Source.refusals old.formats old.levels (g.R.Source.source old.source) _ e c.from_residual-in_err-end_map.result c.from_residual-in_err-end_map.ensures.1
+    (end_unread keyed fields c.fields.invariant.so_far c.in_ok-field.field-0 c.in_default.is c.next_key.new.remaining c.in_ok-field.ensures.read g.R.Source.refusals (g.R.Source.source c.end_map.new.de.decoder.source) e nothing c.in_err-end_map.ensures.read) (search rules)
 
 pub returns-clause-read : goal.returns-clause-read
 returns-clause-read g c =
     let k = context c.args.de.now.decoder.formats g.R.Source.lends in
     let nothing = rw c.in_default.is at c.in_ok-field.ensures.remains in
-    struct_held (texts c.args.names.now) (g.F.FieldList.fields k) c.fields.invariant.so_far c.in_ok-field.field-0 c.in_default.is refl c.next_key.new.remaining c.in_ok-field.ensures.read
+    struct_held (IsKeyed (keys_of c.args.keys.now)) (g.F.FieldList.fields k) c.fields.invariant.so_far c.in_ok-field.field-0 c.in_default.is c.next_key.new.remaining c.in_ok-field.ensures.read
     c.in_ok-parts.parts (c.in_ok-parts.ensures.all k) nothing c.in_ok-end_map.ensures.read refl
 
 -- ---- a wrong form

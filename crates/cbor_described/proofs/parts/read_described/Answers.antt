@@ -1,3 +1,4 @@
+use Rattle.cbor_parts.specs.Keys.{named_keys}
 use Rattle.cbor_decode_as.specs.Takes.{context, formats_of}
 use Rattle.cbor_described.proofs.Makings.{made, not_made}
 use Rattle.cbor_described.proofs.parts.read_described.Goals as goal
@@ -5,11 +6,11 @@ use Rattle.cbor_described.proofs.parts.read_described.Goals as goal
 pub returns-in-Ok-clause-read : goal.returns-in-Ok-clause-read
 returns-in-Ok-clause-read g c =
     let old = c.args.de.now.decoder in
-    made g.T.Schema.parts (λ names. g.T.Parts.ReadableParts.reads names (context old.formats g.R.Source.lends)) g.R.Source.refusals (formats_of old.formats) old.levels (g.R.Source.source old.source) (g.R.Source.source c.read_parts.new.de.decoder.source)
+    made g.T.Schema.parts (λ names. g.T.Parts.ReadableParts.reads (named_keys names) (context old.formats g.R.Source.lends)) g.R.Source.refusals (formats_of old.formats) old.levels (g.R.Source.source old.source) (g.R.Source.source c.read_parts.new.de.decoder.source)
     c.names.ensures.names c.in-Ok.parts c.from_parts.result c.from_parts.ensures c.in-Ok.ensures.read
 
 pub returns-in-Err-clause-read : goal.returns-in-Err-clause-read
 returns-in-Err-clause-read g c =
     let old = c.args.de.now.decoder in
-    not_made g.T.Schema.parts (λ names. g.T.Parts.ReadableParts.reads names (context old.formats g.R.Source.lends)) g.R.Source.refusals (formats_of old.formats) old.levels (g.R.Source.source old.source) (g.R.Source.source c.read_parts.new.de.decoder.source)
+    not_made g.T.Schema.parts (λ names. g.T.Parts.ReadableParts.reads (named_keys names) (context old.formats g.R.Source.lends)) g.R.Source.refusals (formats_of old.formats) old.levels (g.R.Source.source old.source) (g.R.Source.source c.read_parts.new.de.decoder.source)
     c.names.ensures.names c.in-Err.e c.in-Err.ensures.read

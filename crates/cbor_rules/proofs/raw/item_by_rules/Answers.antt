@@ -1,9 +1,9 @@
-use Rattle.std.proofs.Common.{◌∙◌, refl, sym, subst, true}
+use Rattle.std.proofs.Common.{refl, sym, subst}
 use Rattle.cbor_io.specs.Error.{IsOutOfMemory}
 use Rattle.cbor_pushed.proofs.facts.Scans.{none_of_none}
 use Rattle.cbor_read.specs.Source.{TookKept}
 use Rattle.cbor_read.proofs.facts.Sources.{kept_none}
-use Rattle.cbor_raw.specs.Gathered.{GathersNone, IsWhole}
+use Rattle.cbor_raw.specs.Gathered.{GathersNone}
 use Rattle.cbor_raw.proofs.facts.Gathered.{took_more}
 use Rattle.cbor_rules.specs.RawByRules.{ShowsDeparture}
 use Rattle.cbor_rules.specs.Rules.{under}

@@ -1,8 +1,8 @@
-use Rattle.std.proofs.Common.{◌∙◌, refl, sym, subst, ap, arith}
+use Rattle.std.proofs.Common.{arith, []}
 use Rattle.cbor_raw.specs.Gathered.{GathersNone}
 use Rattle.cbor_rules.specs.RawByRules.{ShowsDeparture}
 use Rattle.cbor_rules.specs.Rules.{under}
-use Rattle.cbor_rules.proofs.RawByRules.{gathers_on, if_departs, if_unread, look_refused, none_on, none_to_come, refusal_is, shows_on, taken_is, whole_encodes}
+use Rattle.cbor_rules.proofs.RawByRules.{gathers_on, if_departs, if_unread, look_failed, look_refused, none_on, none_seen, none_to_come, refusal_is, shows_on, taken_is, whole_encodes}
 use Rattle.cbor_rules.proofs.raw.next_raw_item_with_tags.Goals as goal
 
 pub returns-in-Ok-None-clause-every : goal.returns-in-Ok-None-clause-every
@@ -14,7 +14,13 @@ pub returns-in-Err-clause-unread : goal.returns-in-Err-clause-unread
 returns-in-Err-clause-unread g c =
     let s = g.R.Source.source c.args.de.now.decoder.source in
     let m = g.R.Source.source c.peek.new.de.decoder.source in
-    rw c.error_of.ensures.source (look_refused g.R.Source.refusals c.args.de.now.decoder.levels s m c.in-Err.refusal c.error_of.result c.error_of.ensures.reports c.in-Err.ensures.err)
+    rw c.error_of.ensures.source (look_refused g.R.Source.refusals s m c.in-Err.refusal c.in-Err.ensures.err c.error_of.result c.error_of.ensures.reports c.args.de.now.decoder.levels)
+
+pub returns-in-Err-clause-at_end : goal.returns-in-Err-clause-at_end
+returns-in-Err-clause-at_end g c = λ reports.
+    let s = g.R.Source.source c.args.de.now.decoder.source in
+    let m = g.R.Source.source c.peek.new.de.decoder.source in
+    look_failed g.R.Source.refusals s m c.in-Err.refusal c.in-Err.ensures.err c.error_of.result c.error_of.ensures.reports [] reports
 
 pub raw_value-requires : goal.raw_value-requires
 raw_value-requires g c =
@@ -39,6 +45,11 @@ returns-in-Ok-clause-every g c = λ bs item rest reports begins.
     let got = rw c.in-Ok-Some.ensures.settings.levels at c.in-Ok.ensures.found in
     let here = gathers_on s m c.in-Ok-Some.ensures.stays terms c.args.de.now.decoder.levels t c.in-Ok.bytes.items got in
     rw c.raw_value.ensures (taken_is terms g.R.Source.refusals c.args.de.now.decoder.levels s t bs item rest reports begins c.in-Ok.bytes.items here)
+
+pub returns-in-Err-item_by_rules-clause-at_end : goal.returns-in-Err-item_by_rules-clause-at_end
+returns-in-Err-item_by_rules-clause-at_end g c = λ reports.
+    let s = g.R.Source.source c.args.de.now.decoder.source in
+    absurd (none_seen s _ (rw c.in-Ok-Some.field-0-is at c.in-Ok-Some.ensures.front) reports)
 
 pub returns-in-Err-item_by_rules-clause-unread : goal.returns-in-Err-item_by_rules-clause-unread
 returns-in-Err-item_by_rules-clause-unread g c =

@@ -5,8 +5,8 @@ use Rattle.cbor_io.specs.Error.{code_of, offset_of}
 use Rattle.cbor_decode.specs.declared.formats.Formats.{Formats}
 use Rattle.cbor_decode_as.specs.Identifiers.{IsIdentifier, texts}
 use Rattle.cbor_decode_as.specs.Takes.{formats_of}
-use Rattle.cbor_de.proofs.AtHand.{read_here}
-use Rattle.cbor_de.proofs.FieldNames.{no_field}
+use Rattle.cbor_de.proofs.parts.AtHand.{read_here}
+use Rattle.cbor_de.proofs.structs.FieldNames.{no_field}
 use Rattle.cbor_de.proofs.de.Deserializer.field.Goals as goal
 
 pub returns-in_err-place-clause-read : goal.returns-in_err-place-clause-read

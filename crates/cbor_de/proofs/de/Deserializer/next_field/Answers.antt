@@ -3,8 +3,8 @@ use Rattle.std.proofs.lemmas.Result.{err_from_is_err_and}
 use Rattle.cbor_io.specs.Error.{code_of, offset_of}
 use Rattle.cbor_decode.specs.Heads.{remaining_of}
 use Rattle.cbor_decode.specs.declared.formats.Formats.{Formats}
-use Rattle.cbor_decode_as.specs.Identifiers.{texts}
-use Rattle.cbor_de.specs.Structs.{IsField}
+use Rattle.cbor_parts.specs.Keys.{keys_of}
+use Rattle.cbor_de.specs.Structs.{IsKeyed}
 use Rattle.cbor_decode_as.specs.Takes.{formats_of}
 use Rattle.cbor_decode_as.proofs.facts.Places.{bad_key_later}
 use Rattle.cbor_decode_as.proofs.facts.Maps.{none_is_key, there, key_refused, key_next}
@@ -14,7 +14,7 @@ pub returns-in_err-more_pairs-clause-read : goal.returns-in_err-more_pairs-claus
 returns-in_err-more_pairs-clause-read g c =
     let passed = err_from_is_err_and c.from_residual.result c.from_residual.ensures.1 in
     let old = c.args.self.now.decoder in
-    rw (passed.1, passed.2) (λ e made. none_is_key (IsField (texts c.args.names.now)) (formats_of old.formats) old.levels (remaining_of c.args.remaining.now)
+    rw (passed.1, passed.2) (λ e made. none_is_key (IsKeyed (keys_of c.args.keys.now)) (formats_of old.formats) old.levels (remaining_of c.args.remaining.now)
     g.R.Source.refusals (g.R.Source.source old.source) (code_of e) (offset_of e) (c.in_err-more_pairs.ensures.read e made))
 
 pub returns-in_err-field-clause-read : goal.returns-in_err-field-clause-read
@@ -24,7 +24,7 @@ returns-in_err-field-clause-read g c =
     let now = c.more_pairs.new.decoder in
     let s = g.R.Source.source old.source in
     let m = g.R.Source.source now.source in
-    let reads = λ (f : Formats). IsField (texts c.args.names.now) in
+    let reads = λ (f : Formats). IsKeyed (keys_of c.args.keys.now) in
     let remaining = c.args.remaining.now in
     let new = c.more_pairs.new.remaining in
     let more = c.in_ok-more_pairs.field-0 in
@@ -38,8 +38,8 @@ returns-clause-read g c =
     let now = c.more_pairs.new.decoder in
     let s = g.R.Source.source old.source in
     let m = g.R.Source.source now.source in
-    let t = g.R.Source.source c.field.new.self.decoder.source in
-    let reads = λ (f : Formats). IsField (texts c.args.names.now) in
+    let t = g.R.Source.source c.keyed.new.self.decoder.source in
+    let reads = λ (f : Formats). IsKeyed (keys_of c.args.keys.now) in
     let remaining = c.args.remaining.now in
     let new = c.more_pairs.new.remaining in
     let more = c.in_ok-more_pairs.field-0 in

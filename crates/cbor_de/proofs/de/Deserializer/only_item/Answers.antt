@@ -3,7 +3,7 @@ use Rattle.std.proofs.lemmas.Result.{err_from_is_err_and}
 use Rattle.cbor_decode.specs.declared.formats.Formats.{Formats}
 use Rattle.cbor_decode_as.specs.Takes.{context, formats_of, TakesItem}
 use Rattle.cbor_decode_as.proofs.facts.Enums.{none_comes, item_lacks, end_left, only_taken}
-use Rattle.cbor_de.proofs.Forms.{later_in, none_reported}
+use Rattle.cbor_de.proofs.refusals.Forms.{later_in, none_reported}
 use Rattle.cbor_de.proofs.de.Deserializer.only_item.Goals as goal
 
 pub returns-in_err-expect_item-clause-read : goal.returns-in_err-expect_item-clause-read

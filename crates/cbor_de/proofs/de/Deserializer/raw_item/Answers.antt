@@ -1,5 +1,5 @@
 use Rattle.std.proofs.Common.{arith}
-use Rattle.cbor_de.proofs.RawValues.{gathered_encodes}
+use Rattle.cbor_de.proofs.values.RawValues.{gathered_encodes}
 use Rattle.cbor_de.proofs.de.Deserializer.raw_item.Goals as goal
 
 pub raw_value-requires : goal.raw_value-requires

@@ -1,8 +1,8 @@
 use Rattle.std.proofs.Common.{Ok, Err}
 use Rattle.cbor_decode.specs.declared.formats.Formats.{Formats}
 use Rattle.cbor_decode_as.specs.Takes.{context, formats_of}
-use Rattle.cbor_de.proofs.ItemLists.{first_lacks, others_lack, parts_there, same_place}
-use Rattle.cbor_de.proofs.Forms.{later_in, of_left, of_right}
+use Rattle.cbor_de.proofs.parts.ItemLists.{first_lacks, others_lack, parts_there, same_place}
+use Rattle.cbor_de.proofs.refusals.Forms.{later_in, of_left, of_right}
 use Rattle.cbor_de.proofs.item_list.Tuple2ReadItems.read_items.Goals as goal
 
 pub returns-in-Err-clause-read : goal.returns-in-Err-clause-read

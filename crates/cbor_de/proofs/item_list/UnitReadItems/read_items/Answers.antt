@@ -1,4 +1,4 @@
-use Rattle.cbor_de.proofs.ItemLists.{none_left}
+use Rattle.cbor_de.proofs.parts.ItemLists.{none_left}
 use Rattle.cbor_de.proofs.item_list.UnitReadItems.read_items.Goals as goal
 
 pub returns-clause-read : goal.returns-clause-read

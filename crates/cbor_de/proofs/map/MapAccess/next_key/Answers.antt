@@ -5,7 +5,7 @@ use Rattle.cbor_decode_as.specs.Takes.{context, formats_of}
 use Rattle.cbor_decode_as.proofs.facts.Places.{bad_key_later, kept_alone}
 use Rattle.cbor_decode_as.proofs.facts.Maps.{none_is_key, there, key_refused, key_next}
 use Rattle.std.proofs.Common.{inl}
-use Rattle.cbor_de.proofs.Forms.{key_of, key_reported, later_in}
+use Rattle.cbor_de.proofs.refusals.Forms.{key_of, key_reported, later_in}
 use Rattle.cbor_de.proofs.map.MapAccess.next_key.Goals as goal
 
 pub returns-in-Err-clause-read : goal.returns-in-Err-clause-read

@@ -2,7 +2,7 @@ use Rattle.cbor_io.specs.Error.{code_of, offset_of}
 use Rattle.cbor_decode.specs.declared.formats.Formats.{Formats}
 use Rattle.cbor_decode_as.specs.Takes.{context}
 use Rattle.cbor_decode_as.proofs.facts.Arrays.{comes, item_refused, item_next}
-use Rattle.cbor_de.proofs.Forms.{later_in}
+use Rattle.cbor_de.proofs.refusals.Forms.{later_in}
 use Rattle.cbor_de.proofs.sequence.SeqAccess.next_element.Goals as goal
 
 pub returns-in-Err-deserialize-clause-read : goal.returns-in-Err-deserialize-clause-read

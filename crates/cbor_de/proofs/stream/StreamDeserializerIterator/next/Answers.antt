@@ -1,7 +1,7 @@
 use Rattle.std.proofs.Common.{refl, ap}
 use Rattle.cbor_decode_as.specs.Takes.{context, formats_of}
 use Rattle.cbor_decode_as.proofs.facts.Refusals.{item_total}
-use Rattle.cbor_de.proofs.StreamSteps.{none_before, fault_before, front_is}
+use Rattle.cbor_de.proofs.inputs.StreamSteps.{none_before, fault_before, front_is}
 use Rattle.cbor_de.proofs.stream.StreamDeserializerIterator.next.Goals as goal
 
 pub returns-in-Err-deserialize-clause-steps : goal.returns-in-Err-deserialize-clause-steps

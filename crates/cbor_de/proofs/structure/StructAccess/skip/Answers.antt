@@ -3,7 +3,7 @@ use Rattle.cbor_model.specs.Raw.{Raw}
 use Rattle.cbor_io.specs.Error.{code_of, offset_of}
 use Rattle.cbor_decode_as.specs.Takes.{formats_of}
 use Rattle.cbor_de.specs.declared.types.ignored.IgnoredAny.{IgnoredAny}
-use Rattle.cbor_de.proofs.FieldNames.{no_item}
+use Rattle.cbor_de.proofs.structs.FieldNames.{no_item}
 use Rattle.cbor_de.proofs.structure.StructAccess.skip.Goals as goal
 
 pub returns-in-Err-clause-read : goal.returns-in-Err-clause-read

@@ -1,6 +1,6 @@
 use Rattle.cbor_decode_as.specs.Takes.{context, formats_of}
 use Rattle.cbor_decode_as.specs.Enums.{part_then, no_part}
-use Rattle.cbor_de.proofs.ItemLists.{no_items_of}
+use Rattle.cbor_de.proofs.parts.ItemLists.{no_items_of}
 use Rattle.cbor_de.proofs.tuple_parts.Tuple6ReadTuple.read_tuple.Goals as goal
 
 pub returns-in-Err-clause-read : goal.returns-in-Err-clause-read

@@ -1,7 +1,7 @@
 use Rattle.std.proofs.Common.{◌≡◌, ◌∙◌, ◌++◌, sym, arith}
 use Rattle.std.specs.Char.{encode_utf8}
 use Rattle.std.specs.Str.Iter.{chars_rest}
-use Rattle.cbor_de.proofs.Characters.{not_all, none_of_empty}
+use Rattle.cbor_de.proofs.values.Characters.{not_all, none_of_empty}
 use Rattle.cbor_de.proofs.types.character.one_of.Goals as goal
 
 pub returns-else-len_utf8-text-clause-read : goal.returns-else-len_utf8-text-clause-read

@@ -6,15 +6,15 @@ use Rattle.cbor_decode.specs.declared.formats.Formats.{Formats}
 use Rattle.cbor_decode_as.specs.Arrays.{AreRead}
 use Rattle.cbor_decode_as.specs.Takes.{TakesItem, context, formats_of}
 use Rattle.cbor_read.specs.Source.{Input, TookSome}
-use Rattle.cbor_de.proofs.AtHand.{read_here, form_here}
+use Rattle.cbor_de.proofs.parts.AtHand.{read_here, form_here}
 use Rattle.cbor_decode_as.proofs.facts.Arrays.{EachRead, each_none, each_more, each_all, rest_read, may_follow}
 use Rattle.cbor_decode_as.proofs.facts.Arrays.{comes, item_next, item_refused}
 use Rattle.cbor_decode_as.proofs.facts.Arrays.{end_twice, loop_begins, loop_goes_on, loop_refused, end_refused, array_takes_to, array_refused, no_array_read}
-use Rattle.cbor_de.proofs.Elements.{untold_refused, comes_not, nothing_left}
+use Rattle.cbor_de.proofs.parts.Elements.{untold_refused, comes_not, nothing_left}
 use Rattle.cbor_decode_as.proofs.facts.Refusals.{refuses_on}
 use Rattle.cbor_decode.proofs.facts.Steps.{took_same, some_then}
 use Rattle.cbor_decode_as.proofs.facts.Readings.{refuses_memory}
-use Rattle.cbor_de.proofs.Forms.{later_in}
+use Rattle.cbor_de.proofs.refusals.Forms.{later_in}
 use Rattle.cbor_de.proofs.types.sequences.array_items.Goals as goal
 use Rattle.cbor_de.proofs.types.sequences.array_items.Goals.{in-Some, in-None+in-Ok}
 

@@ -9,7 +9,7 @@ use Rattle.cbor_decode_as.proofs.facts.Arrays.{end_step, end_lacks, part_goes_on
 use Rattle.cbor_decode_as.proofs.facts.Refusals.{refuses_on}
 use Rattle.cbor_decode.proofs.facts.Steps.{took_same, some_then}
 use Rattle.cbor_decode_as.proofs.facts.Readings.{refuses_memory}
-use Rattle.cbor_de.proofs.Forms.{later_in}
+use Rattle.cbor_de.proofs.refusals.Forms.{later_in}
 use Rattle.cbor_de.proofs.types.sequences.exactly.Goals as goal
 
 pub returns-in_err-access-clause-read : goal.returns-in_err-access-clause-read

@@ -12,6 +12,6 @@ pub returns-in-Err-clause-read : goal.returns-in-Err-clause-read
 returns-in-Err-clause-read g c =
     let old = c.args.de.now.decoder in
     let k = context old.formats g.R.Source.lends in
-    let same : texts c.args.names.now ≡ texts c.args.names.now = refl in
+    let same : texts c.args.keys.now.names.now ≡ texts c.args.keys.now.names.now = refl in
     not_made (λ (x : OneOf4 g.row.A.Denot g.row.B.Denot g.row.C.Denot g.row.D.Denot). list4 x) (λ (names : List (List ℕ)). PassesTags (IsEnum k.formats names (either (g.A.Variant.means k) (either (g.B.Variant.means k) (either (g.C.Variant.means k) (either (g.D.Variant.means k) no_variant)))))) g.R.Source.refusals (formats_of old.formats) old.levels (g.R.Source.source old.source) (g.R.Source.source c.read_variants.new.de.decoder.source)
     same c.in-Err.e c.in-Err.ensures.read

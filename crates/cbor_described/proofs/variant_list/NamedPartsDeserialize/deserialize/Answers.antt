@@ -1,4 +1,5 @@
 use Rattle.std.proofs.Common.{ℕ, List, refl}
+use Rattle.cbor_parts.specs.Keys.{named_keys}
 use Rattle.cbor_decode_as.specs.Takes.{context, formats_of}
 use Rattle.cbor_described.specs.declared.variant_list.NamedParts.{NamedParts}
 use Rattle.cbor_described.proofs.Makings.{made, not_made}
@@ -7,11 +8,11 @@ use Rattle.cbor_described.proofs.variant_list.NamedPartsDeserialize.deserialize.
 pub returns-in-Ok-clause-read : goal.returns-in-Ok-clause-read
 returns-in-Ok-clause-read g c =
     let old = c.args.de.now.decoder in
-    made (λ (y : NamedParts g.row.N.Denot g.row.N-Parts.Denot). y.0) (λ (names : List (List ℕ)). g.N.Parts.ReadableParts.reads names (context old.formats g.R.Source.lends)) g.R.Source.refusals (formats_of old.formats) old.levels (g.R.Source.source old.source) (g.R.Source.source c.read_parts.new.de.decoder.source)
+    made (λ (y : NamedParts g.row.N.Denot g.row.N-Parts.Denot). y.0) (λ (names : List (List ℕ)). g.N.Parts.ReadableParts.reads (named_keys names) (context old.formats g.R.Source.lends)) g.R.Source.refusals (formats_of old.formats) old.levels (g.R.Source.source old.source) (g.R.Source.source c.read_parts.new.de.decoder.source)
     c.names.ensures.names c.in-Ok.fields (record { 0 = c.in-Ok.fields }) refl c.in-Ok.ensures.read
 
 pub returns-in-Err-clause-read : goal.returns-in-Err-clause-read
 returns-in-Err-clause-read g c =
     let old = c.args.de.now.decoder in
-    not_made (λ (y : NamedParts g.row.N.Denot g.row.N-Parts.Denot). y.0) (λ (names : List (List ℕ)). g.N.Parts.ReadableParts.reads names (context old.formats g.R.Source.lends)) g.R.Source.refusals (formats_of old.formats) old.levels (g.R.Source.source old.source) (g.R.Source.source c.read_parts.new.de.decoder.source)
+    not_made (λ (y : NamedParts g.row.N.Denot g.row.N-Parts.Denot). y.0) (λ (names : List (List ℕ)). g.N.Parts.ReadableParts.reads (named_keys names) (context old.formats g.R.Source.lends)) g.R.Source.refusals (formats_of old.formats) old.levels (g.R.Source.source old.source) (g.R.Source.source c.read_parts.new.de.decoder.source)
     c.names.ensures.names c.in-Err.e c.in-Err.ensures.read

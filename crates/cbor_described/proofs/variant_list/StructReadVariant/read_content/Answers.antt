@@ -1,5 +1,6 @@
 use Rattle.cbor_parts.specs.declared.Struct.{Struct}
 use Rattle.cbor_model.specs.Raw.{Raw}
+use Rattle.cbor_parts.specs.Keys.{named_keys}
 use Rattle.cbor_decode_as.specs.Enums.{IsPart}
 use Rattle.cbor_decode_as.specs.Takes.{context, formats_of}
 use Rattle.cbor_described.specs.declared.variant_list.NamedParts.{NamedParts}
@@ -11,7 +12,7 @@ use Rattle.cbor_described.proofs.variant_list.StructReadVariant.read_content.Goa
 pub returns-in-Ok-clause-read : goal.returns-in-Ok-clause-read
 returns-in-Ok-clause-read g c =
     let old = c.args.de.now.decoder in
-    let reads = g.N.Parts.ReadableParts.reads g.N.FieldNames.names (context old.formats g.R.Source.lends) in
+    let reads = g.N.Parts.ReadableParts.reads (named_keys g.N.FieldNames.names) (context old.formats g.R.Source.lends) in
     let named = λ (r : Raw) (y : NamedParts g.row.N.Denot g.row.N-Parts.Denot). reads r y.0 in
     content_made (formats_of old.formats) old.levels c.args.form g.R.Source.refusals (g.R.Source.source old.source) (g.R.Source.source c.one_part.new.de.decoder.source)
     (IsPart named) (λ content y. IsPart reads content y.0) c.in-Ok.named (record { 0 = c.in-Ok.named.0 }) (λ content h. is_part reads (λ (y : NamedParts g.row.N.Denot g.row.N-Parts.Denot). y.0) content c.in-Ok.named h) c.in-Ok.ensures.read
@@ -19,7 +20,7 @@ returns-in-Ok-clause-read g c =
 pub returns-in-Err-clause-read : goal.returns-in-Err-clause-read
 returns-in-Err-clause-read g c =
     let old = c.args.de.now.decoder in
-    let reads = g.N.Parts.ReadableParts.reads g.N.FieldNames.names (context old.formats g.R.Source.lends) in
+    let reads = g.N.Parts.ReadableParts.reads (named_keys g.N.FieldNames.names) (context old.formats g.R.Source.lends) in
     let named = λ (r : Raw) (y : NamedParts g.row.N.Denot g.row.N-Parts.Denot). reads r y.0 in
     content_not_made (formats_of old.formats) old.levels c.args.form g.R.Source.refusals (g.R.Source.source old.source) (g.R.Source.source c.one_part.new.de.decoder.source)
     (IsPart named) (λ content (y : Struct g.row.N.Denot g.row.N-Parts.Denot). IsPart reads content y.0) c.in-Err.e (λ content y h. (record { 0 = y.0 }, part_is reads (λ (y : NamedParts g.row.N.Denot g.row.N-Parts.Denot). y.0) content (record { 0 = y.0 }) h)) c.in-Err.ensures.read

@@ -4,7 +4,7 @@ use Rattle.cbor_rules.specs.Answers.{IfUnread, IsMemory}
 use Rattle.cbor_rules.specs.NextItem.{standing, ReportsDepartureFrom}
 use Rattle.cbor_rules.specs.Rules.{is_unique}
 use Rattle.cbor_rules.specs.Unique.{HasPair}
-use Rattle.cbor_rules.proofs.ItemsTaken.{departing, departs_so, given, not_by_rules, of_item, read_as}
+use Rattle.cbor_rules.proofs.ItemsTaken.{departing, departs_so, given, more_to_come, not_by_rules, of_item, on_err_always, read_as}
 use Rattle.cbor_rules.proofs.Reading.{only_unread, where_any}
 use Rattle.cbor_rules.proofs.items.RuledItems.next_item.Goals as goal
 
@@ -23,6 +23,10 @@ pub returns-in_err-value-clause-memory : goal.returns-in_err-value-clause-memory
 returns-in_err-value-clause-memory g c = λ x rest front.
     only_unread (IfUnread (λ e. g.T.Readable.asks_memory from_slice_asks front.item ⊎ ((is_unique c.args.self.now.rules.keys ≡ true) × HasPair front.item))) c.from_residual.result _ c.from_residual.ensures.1
     (inl (c.in_err-value.ensures.memory x rest front))
+
+pub returns-in_err-value-clause-at_end : goal.returns-in_err-value-clause-at_end
+returns-in_err-value-clause-at_end g c =
+    on_err_always c.from_residual.result (more_to_come (standing c.args.self.now) c.args.self.now.within c.if-self.false)
 
 -- ---- read, and departs
 

@@ -7,7 +7,7 @@ use Rattle.cbor_read.specs.Source.{asks_for}
 use Rattle.cbor_decode_as.specs.Strings.{AsksForBytes, AsksForString, AsksToLend, IsByteArray, IsByteString, IsNoKey, LendsBytes, UnreadOnly}
 use Rattle.cbor_decode_as.specs.Takes.{raws, context, formats_of, IsNotRead}
 use Rattle.cbor_decode_as.proofs.facts.Strings.{made_memory, made_refuses, none_of}
-use Rattle.cbor_de.proofs.ByteStrings.{array_memory, array_takes}
+use Rattle.cbor_de.proofs.values.ByteStrings.{array_memory, array_takes}
 use Rattle.cbor_decode_as.specs.Strings.{LendsWhole}
 use Rattle.cbor_decode_as.proofs.facts.Strings.{made_whole}
 use Rattle.cbor_decode_as.proofs.facts.Refusals.{stands_err}

@@ -5,7 +5,7 @@ use Rattle.cbor_read.specs.Source.{asks_for}
 use Rattle.std.specs.Char.{encode_utf8}
 use Rattle.cbor_decode_as.specs.Strings.{AsksForString, AsksToLend, IsCharacter, IsNoKey, LendsText, UnreadOnly}
 use Rattle.cbor_decode_as.specs.Takes.{raws, context, formats_of, IsNotRead}
-use Rattle.cbor_de.proofs.Characters.{character_memory, character_takes}
+use Rattle.cbor_de.proofs.values.Characters.{character_memory, character_takes}
 use Rattle.cbor_decode_as.proofs.facts.Strings.{made_memory, made_refuses, none_of}
 use Rattle.cbor_decode_as.specs.Strings.{LendsWhole}
 use Rattle.cbor_decode_as.proofs.facts.Strings.{made_whole}

@@ -1,6 +1,6 @@
 use Rattle.std.specs.Prelude.{⊤}
 use Rattle.cbor_decode_as.specs.Takes.{formats_of}
-use Rattle.cbor_de.proofs.Faults.{any_passed, any_stops, value_refused}
+use Rattle.cbor_de.proofs.refusals.Faults.{any_passed, any_stops, value_refused}
 use Rattle.cbor_read.specs.Source.{asks_for}
 use Rattle.cbor_decode.specs.HasChunks.{AllRead, AsksWhere, HasChunks, raws}
 use Rattle.cbor_decode.proofs.facts.Memory.{asks_on}
@@ -8,7 +8,7 @@ use Rattle.cbor_decode_as.proofs.facts.Refusals.{error_only, reported_by}
 use Rattle.cbor_model.specs.Reader.{item_at}
 use Rattle.cbor_decode.specs.Gives.{Limits, values}
 use Rattle.cbor_decode_as.proofs.facts.Places.{kept_alone}
-use Rattle.cbor_de.proofs.Forms.{item_reported}
+use Rattle.cbor_de.proofs.refusals.Forms.{item_reported}
 use Rattle.cbor_de.proofs.types.ignored.IgnoredAnyDeserialize.deserialize.Goals as goal
 
 pub returns-in-Ok-clause-read : goal.returns-in-Ok-clause-read

@@ -10,11 +10,11 @@ use Rattle.cbor_decode_as.specs.MapAccesses.{IsKey}
 use Rattle.cbor_decode_as.specs.Maps.{AreEntries}
 use Rattle.cbor_decode_as.specs.Takes.{context, formats_of}
 use Rattle.cbor_decode_as.proofs.facts.Maps.{Made, none_made, made_more, made_all, may_follow_made}
-use Rattle.cbor_de.proofs.WholeMaps.{map_begins, map_goes_on, key_lacks, value_lacks, map_takes, map_refused, map_end_refused, map_end_twice, no_map_read}
+use Rattle.cbor_de.proofs.parts.WholeMaps.{map_begins, map_goes_on, key_lacks, value_lacks, map_takes, map_refused, map_end_refused, map_end_twice, no_map_read}
 use Rattle.cbor_decode_as.proofs.facts.Refusals.{refuses_on}
 use Rattle.cbor_decode.proofs.facts.Steps.{took_same, some_then}
 use Rattle.cbor_decode_as.proofs.facts.Readings.{refuses_memory}
-use Rattle.cbor_de.proofs.Forms.{key_in_map, later_in, of_left, of_right}
+use Rattle.cbor_de.proofs.refusals.Forms.{key_in_map, later_in, of_left, of_right}
 use Rattle.cbor_de.specs.Forms.{any_of, key_form}
 use Rattle.cbor_de.proofs.types.maps.BTreeMapDeserialize.deserialize.Goals as goal
 

@@ -8,8 +8,8 @@ use Rattle.cbor_decode_as.specs.Takes.{raws, context, formats_of, IsRead, IsNotR
 use Rattle.cbor_decode.specs.declared.formats.Formats.{Formats}
 use Rattle.cbor_decode_as.proofs.facts.Nulls.{option_none, option_some, option_refused, option_memory, option_whole, unseen_whole}
 use Rattle.cbor_decode_as.proofs.facts.Refusals.{always, item_only, item_passes}
-use Rattle.cbor_de.proofs.Faults.{where_map}
-use Rattle.cbor_de.proofs.Forms.{later_in}
+use Rattle.cbor_de.proofs.refusals.Faults.{where_map}
+use Rattle.cbor_de.proofs.refusals.Forms.{later_in}
 use Rattle.cbor_de.proofs.types.option.OptionDeserialize.deserialize.Goals as goal
 
 pub returns-in-Ok-true-clause-read : goal.returns-in-Ok-true-clause-read

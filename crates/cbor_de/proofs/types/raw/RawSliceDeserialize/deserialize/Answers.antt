@@ -5,7 +5,7 @@ use Rattle.cbor_decode_as.specs.Takes.{context, formats_of, raws}
 use Rattle.cbor_decode_as.proofs.facts.Readings.{refuses_map}
 use Rattle.cbor_value.specs.RawBytes.{slice_bytes}
 use Rattle.cbor_value.specs.declared.raw_value.RawSlice.{RawSlice}
-use Rattle.cbor_de.proofs.RawValues.{none_seen}
+use Rattle.cbor_de.proofs.values.RawValues.{none_seen}
 use Rattle.cbor_de.proofs.types.raw.RawSliceDeserialize.deserialize.Goals as goal
 
 pub returns-in-Err-clause-read : goal.returns-in-Err-clause-read

@@ -1,5 +1,5 @@
 use Rattle.cbor_decode_as.specs.Takes.{context, formats_of}
-use Rattle.cbor_de.proofs.Made.{vector_made}
+use Rattle.cbor_de.proofs.values.Made.{vector_made}
 use Rattle.cbor_de.proofs.types.sequences.VecDeserialize.deserialize.Goals as goal
 
 pub returns-clause-read : goal.returns-clause-read

@@ -3,7 +3,7 @@ use Rattle.cbor_model.specs.Raw.{Raws}
 use Rattle.cbor_decode_as.specs.Arrays.{AreRead}
 use Rattle.cbor_decode_as.specs.Takes.{context, formats_of}
 use Rattle.cbor_de.specs.Sets.{AreKeys}
-use Rattle.cbor_de.proofs.Made.{none_made}
+use Rattle.cbor_de.proofs.values.Made.{none_made}
 use Rattle.cbor_de.proofs.types.sets.BTreeSetDeserialize.deserialize.Goals as goal
 
 pub returns-in-Err-clause-read : goal.returns-in-Err-clause-read

@@ -6,9 +6,9 @@ use Rattle.cbor_decode.specs.Memory.{ReadsStored}
 use Rattle.cbor_decode_as.proofs.facts.Refusals.{error_only}
 use Rattle.cbor_decode_as.specs.Takes.{formats_of}
 use Rattle.cbor_decode.proofs.facts.Readings.{along, value_seen}
-use Rattle.cbor_de.proofs.Faults.{AsValue, value_taken, value_refused}
+use Rattle.cbor_de.proofs.refusals.Faults.{AsValue, value_taken, value_refused}
 use Rattle.cbor_decode_as.proofs.facts.Places.{kept_alone}
-use Rattle.cbor_de.proofs.Forms.{item_reported}
+use Rattle.cbor_de.proofs.refusals.Forms.{item_reported}
 use Rattle.cbor_decode_as.proofs.facts.Refusals.{reported_by}
 use Rattle.cbor_de.proofs.types.value.ValueDeserialize.deserialize.Goals as goal
 

@@ -1,0 +1,21 @@
+use Rattle.std.proofs.Common.{Err}
+use Rattle.std.proofs.lemmas.Result.{err_from_is_err_and}
+use Rattle.cbor_model.specs.Readable.{PassesTags}
+use Rattle.cbor_io.specs.Error.{code_of, offset_of}
+use Rattle.cbor_decode.specs.declared.formats.Formats.{Formats}
+use Rattle.cbor_decode_as.specs.Identifiers.{IsLabel}
+use Rattle.cbor_decode_as.specs.Takes.{formats_of}
+use Rattle.cbor_de.proofs.parts.AtHand.{read_here}
+use Rattle.cbor_de.proofs.structs.FieldNames.{no_label}
+use Rattle.cbor_de.proofs.de.Deserializer.labelled.Goals as goal
+
+pub returns-in_err-place-clause-read : goal.returns-in_err-place-clause-read
+returns-in_err-place-clause-read g c =
+    let passed = err_from_is_err_and c.from_residual.result c.from_residual.ensures.1 in
+    let old = c.args.self.now.decoder in
+    let same = c.signed_at_hand.new.decoder in
+    let none = c.in_default.ensures in
+    let labels = c.args.labels.now in
+    let s = g.R.Source.source old.source in
+    rw (passed.1, passed.2) (λ e made. no_label labels g.R.Source.refusals (formats_of old.formats) old.levels s (code_of e) (offset_of e)
+    (read_here old.formats same.formats none.settings.formats s (g.R.Source.source same.source) none.read g.R.Source.refusals (λ (f : Formats). PassesTags (IsLabel labels)) old.levels same.levels none.settings.levels (g.R.Source.source c.label.new.decoder.source) (Err e) (c.in_err-place.ensures.read e made)))

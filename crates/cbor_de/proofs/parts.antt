@@ -1,0 +1,6 @@
+-- Arrays, maps and enums, one part after the other.
+pub mod Elements
+pub mod ItemLists
+pub mod WholeMaps
+pub mod Enums
+pub mod AtHand

@@ -1,0 +1,80 @@
+use Rattle.std.proofs.Common.{Ok, ℤ, FitsSigned, [], ap, subst, rules}
+use Rattle.std.proofs.lemmas.Int.{to_z-of_z}
+use Rattle.std.specs.Int.{w128}
+use Rattle.std.proofs.lemmas.Result.{err_from_is_err_and}
+use Rattle.cbor_model.specs.Readable.{PassesTags}
+use Rattle.cbor_model.specs.Reader.{item_at}
+use Rattle.cbor_io.specs.Error.{code_of, offset_of}
+use Rattle.cbor_decode.specs.declared.head.Head.{Head}
+use Rattle.cbor_decode.proofs.facts.Steps.{took_same}
+use Rattle.cbor_decode_as.specs.Identifiers.{IsLabel, IsPlace}
+use Rattle.cbor_decode_as.specs.TaggedHeads.{TakesItemHead}
+use Rattle.cbor_decode_as.specs.Takes.{formats_of, raws}
+use Rattle.cbor_decode_as.proofs.numbers.Scalars.{refuses, refuses_on}
+use Rattle.cbor_decode_as.proofs.texts.Lending.{text_refuses}
+use Rattle.cbor_decode_as.proofs.texts.Identifiers.{integer_names, text_names, bytes_read, no_integer_refused}
+use Rattle.cbor_decode_as.proofs.label.label.Goals as goal
+
+pub returns-in-Some-clause-read : goal.returns-in-Some-clause-read
+returns-in-Some-clause-read g c =
+    let old = c.args.decoder.now in
+    let u = c.scalar_head.new.decoder in
+    let f = formats_of old.formats in
+    let s = g.R.Source.source old.source in
+    let m = g.R.Source.source u.source in
+    let z = c.in-Some.number in
+    let fits : FitsSigned w128 z = search rules in
+    let place = subst (λ (x : ℤ). IsPlace c.args.labels.now x c.place_of_label.result) (to_z-of_z w128 z fits) c.place_of_label.ensures.place in
+    integer_names (IsPlace c.args.labels.now) [] g.R.Source.refusals f g.R.Source.lends old.levels s m u.refusal c.in_ok-found.found.head z c.place_of_label.result c.in-Some.ensures place c.in_ok-found.ensures.read
+
+pub returns-in_ok-text_name-in-Text-clause-read : goal.returns-in_ok-text_name-in-Text-clause-read
+returns-in_ok-text_name-in-Text-clause-read g c =
+    let old = c.args.decoder.now in
+    let u = c.scalar_head.new.decoder in
+    let f = formats_of old.formats in
+    let s = g.R.Source.source old.source in
+    let m = g.R.Source.source u.source in
+    let t = g.R.Source.source c.text_name.new.decoder.source in
+    let opened = subst (λ (h : Head). TakesItemHead g.R.Source.refusals f old.levels s m u.refusal (Ok h)) c.in-Text.is c.in_ok-found.ensures.read in
+    let named = c.in_ok-text_name-in-Text.ensures.read in
+    text_names (IsPlace c.args.labels.now) [] g.R.Source.refusals f g.R.Source.lends old.levels s m u.refusal c.in-Text.n t named.0 c.in_ok-text_name-in-Text.field-0 named.1 named.2 opened named.3
+
+pub returns-in_err-text_name-in-Text-clause-read : goal.returns-in_err-text_name-in-Text-clause-read
+returns-in_err-text_name-in-Text-clause-read g c =
+    let passed = err_from_is_err_and c.from_residual-in_err-text_name-in-Text.result c.from_residual-in_err-text_name-in-Text.ensures.1 in
+    let old = c.args.decoder.now in
+    let u = c.scalar_head.new.decoder in
+    let f = formats_of old.formats in
+    let s = g.R.Source.source old.source in
+    let m = g.R.Source.source u.source in
+    let opened = subst (λ (h : Head). TakesItemHead g.R.Source.refusals f old.levels s m u.refusal (Ok h)) c.in-Text.is c.in_ok-found.ensures.read in
+    rw (passed.1, passed.2) (λ e made. text_refuses g.R.Source.refusals f g.R.Source.lends old.levels s m u.refusal (IsLabel c.args.labels.now) c.in-Text.n (code_of e) (offset_of e) opened (c.in_err-text_name-in-Text.ensures.read e made))
+
+pub returns-in-Bytes-clause-read : goal.returns-in-Bytes-clause-read
+returns-in-Bytes-clause-read g c =
+    let old = c.args.decoder.now in
+    let u = c.scalar_head.new.decoder in
+    let new = c.bytes_name.new.decoder in
+    let f = formats_of old.formats in
+    let s = g.R.Source.source old.source in
+    let m = g.R.Source.source u.source in
+    let t = g.R.Source.source new.source in
+    let opened = subst (λ (h : Head). TakesItemHead g.R.Source.refusals f old.levels s m u.refusal (Ok h)) c.in-Bytes.is c.in_ok-found.ensures.read in
+    bytes_read (IsPlace c.args.labels.now) [] g.R.Source.refusals f g.R.Source.lends old.levels s m u.refusal c.in-Bytes.n t new.refusal c.bytes_name.result opened c.bytes_name.ensures.read
+
+pub returns-in_default-head-clause-read : goal.returns-in_default-head-clause-read
+returns-in_default-head-clause-read g c =
+    let old = c.args.decoder.now in
+    let u = c.scalar_head.new.decoder in
+    let f = formats_of old.formats in
+    let s = g.R.Source.source old.source in
+    let m = g.R.Source.source u.source in
+    λ e made. refuses_on (no_integer_refused (IsPlace c.args.labels.now) [] g.R.Source.refusals f g.R.Source.lends old.levels s m u.refusal c.in_ok-found.found.head e c.in_default.ensures c.in_default-head.not-Text c.in_default-head.not-Bytes c.in_ok-found.ensures.read) (took_same (ap g.R.Source.source c.no_name.ensures.source))
+
+pub returns-in_err-found-clause-read : goal.returns-in_err-found-clause-read
+returns-in_err-found-clause-read g c =
+    let passed = err_from_is_err_and c.from_residual.result c.from_residual.ensures.1 in
+    let old = c.args.decoder.now in
+    let f = formats_of old.formats in
+    let s = g.R.Source.source old.source in
+    rw (passed.1, passed.2) (λ e made. refuses g.R.Source.refusals (PassesTags (IsLabel c.args.labels.now)) (λ l. item_at (raws f l) old.levels) s c.scalar_head.new.decoder.refusal c.in_err-found.field-0.0 e made c.in_err-found.ensures.read.1)

@@ -1,0 +1,83 @@
+//! Laws over calls: what a form's call writes, the form's rules accept.
+
+ghost use Rattle.cbor_model.specs.Document.{IsStorableDocument};
+ghost use Rattle.cbor_convert.specs.Meaning.{value_of};
+ghost use Rattle.cbor_forms.specs.Shortened.{IsReducible, KeepsKeys, reduced, shortened};
+ghost use Rattle.cbor_rules.specs.Presets.{IsReadBack};
+
+use crate::answers::Refusal;
+use crate::from::from_slice_with;
+use crate::laws::{
+    dcbor_written_is_accepted, deterministic_written_is_accepted, length_first_written_is_accepted,
+    reduced_has_reduced_numbers, shortened_has_shortest_floats,
+};
+use crate::settings::Rules;
+use cbor_forms::{to_vec_dcbor, to_vec_deterministic, to_vec_length_first};
+use cbor_ser::Serialize;
+use cbor_value::Value;
+use std::alloc::Global;
+
+/// Writes a value by [`to_vec_deterministic`], and reads that by [`Rules::DETERMINISTIC`]: as the
+/// value with its floats at their shortest.
+///
+/// It refuses what `to_vec_deterministic` refuses, and what is nested deeper than the 127 levels
+/// that are read; and it returns `OutOfMemory` where an allocation fails. Nothing else is refused:
+/// what is written departs from none of the rules.
+///
+/// ```rust
+/// let Ok(value) = write_and_read_deterministic(alloc, &1.5f64) else {
+///     return Err(Fail::from("refused"));
+/// };
+/// assert_eq!(rt; value.as_f64(), Some(1.5));
+/// ```
+pub fn write_and_read_deterministic<T: Serialize>(
+    alloc: Global,
+    value: &T,
+) -> Result<Value, Refusal>
+    ensures read_back { IsStorableDocument (T.document value.now)
+        → KeepsKeys (value_of (T.document value.now))
+        → IsReadBack (shortened (value_of (T.document value.now))) result }
+{
+    deterministic_written_is_accepted();
+    shortened_has_shortest_floats();
+    let bytes = to_vec_deterministic(alloc, value)?;
+    from_slice_with(alloc, &bytes, Rules::DETERMINISTIC)
+}
+
+/// The same by [`to_vec_length_first`] and [`Rules::LENGTH_FIRST`].
+///
+/// ```rust
+/// let Ok(value) = write_and_read_length_first(alloc, &1.5f64) else {
+///     return Err(Fail::from("refused"));
+/// };
+/// assert_eq!(rt; value.as_f64(), Some(1.5));
+/// ```
+pub fn write_and_read_length_first<T: Serialize>(alloc: Global, value: &T) -> Result<Value, Refusal>
+    ensures read_back { IsStorableDocument (T.document value.now)
+        → KeepsKeys (value_of (T.document value.now))
+        → IsReadBack (shortened (value_of (T.document value.now))) result }
+{
+    length_first_written_is_accepted();
+    shortened_has_shortest_floats();
+    let bytes = to_vec_length_first(alloc, value)?;
+    from_slice_with(alloc, &bytes, Rules::LENGTH_FIRST)
+}
+
+/// The same by [`to_vec_dcbor`] and [`Rules::DCBOR`]: it is read as the value with dCBOR's numbers.
+///
+/// ```rust
+/// let Ok(value) = write_and_read_dcbor(alloc, &2.0f64) else {
+///     return Err(Fail::from("refused"));
+/// };
+/// assert_eq!(rt; value.as_integer(), Some(2));
+/// ```
+pub fn write_and_read_dcbor<T: Serialize>(alloc: Global, value: &T) -> Result<Value, Refusal>
+    ensures read_back { IsStorableDocument (T.document value.now)
+        → IsReducible (value_of (T.document value.now))
+        → IsReadBack (reduced (value_of (T.document value.now))) result }
+{
+    dcbor_written_is_accepted();
+    reduced_has_reduced_numbers();
+    let bytes = to_vec_dcbor(alloc, value)?;
+    from_slice_with(alloc, &bytes, Rules::DCBOR)
+}
