@@ -4,36 +4,29 @@
     bench/check.py NAME..                   proves the crates, and first what isn't kept below them
     bench/check.py --test NAME..            with their tests
     bench/check.py NAME -- --only PATH      rattle's own flags stand behind `--`
-    bench/check.py --edits NAME [EDIT..]    tries the crate's edits that must fail, or these of them
+    bench/check.py --quick NAME -- ..       without looking for empty contracts, which takes minutes
     bench/check.py --apply                  names each edit, of any crate, whose text isn't found
     bench/check.py --take FOLDER            keeps what the gate has built in another clone, of equal text
 
 A library that is proved is kept by its text and that of those below it, under `.git/kept` of the first
 work tree; what was proved of a crate between two runs is kept in its `out`. JOBS is the number of
-processes. It gives no verdict: the gate does, which takes nothing from here. Kit 13b's `rt check` proves
-the libraries below a crate anew in each work tree; this works by that kit's own parts.
+processes. It says of each function how many seconds it took. It gives no verdict: the gate does, which
+takes nothing from here. Kit 13b's `rt check` proves the libraries below a crate anew in each work tree;
+this works by that kit's own parts. Over what it has built, `.ci/edits . NAME` tries the crate's edits
+that must fail.
 """
 import fcntl
-import importlib.machinery
-import importlib.util
 import os
 import pathlib
 import shutil
 import subprocess
 import sys
+import time
 
+TOP = pathlib.Path(__file__).resolve().parent.parent
+sys.path.insert(0, str(TOP / ".ci"))
 sys.dont_write_bytecode = True
-
-
-def from_kit():
-    """The parts of the kit's command `rt`."""
-    page = subprocess.run(["rt", "doc"], capture_output=True, text=True, check=True).stdout.strip()
-    folder = pathlib.Path(page).parent / "bin"
-    sys.path.insert(0, str(folder))
-    loader = importlib.machinery.SourceFileLoader("rt", str(folder / "rt"))
-    module = importlib.util.module_from_spec(importlib.util.spec_from_loader("rt", loader))
-    loader.exec_module(module)
-    return module
+from kit import from_kit  # noqa: E402
 
 
 class Kept:
@@ -54,6 +47,19 @@ class Kept:
         whole = [*self.rt.rtlib.guarded(), self.rt.rtlib.RATTLE, *words]
         ends = {"stdout": log, "stderr": subprocess.STDOUT if log else None}
         return subprocess.run(whole, cwd=crate.folder, stdin=subprocess.DEVNULL, **ends).returncode
+
+    def timed(self, crate, words):
+        """The same, and says of each function after how many seconds it was checked."""
+        whole = [*self.rt.rtlib.guarded(), self.rt.rtlib.RATTLE, *words]
+        ends = {"stdin": subprocess.DEVNULL, "stdout": subprocess.PIPE, "stderr": subprocess.STDOUT}
+        with subprocess.Popen(whole, cwd=crate.folder, text=True, errors="replace", **ends) as ran:
+            since = time.monotonic()
+            for line in ran.stdout:
+                if line.startswith("checked "):
+                    before, since = since, time.monotonic()
+                    line = f"{since - before:4.0f} s: {line}"
+                print(line, end="", flush=True)
+        return ran.returncode
 
     def is_placed(self, crate):
         """Whether the library is built here, or could be copied from the store."""
@@ -98,28 +104,14 @@ class Kept:
             (out / "rlib/kept").write_text(name)
         return True
 
-    def check(self, crate, flags, tests):
+    def check(self, crate, flags, tests, quick):
         if not all(self.build(it) for it in crate.below()):
             return 1
         (pathlib.Path(crate.folder) / "out").mkdir(exist_ok=True)
         words = crate.words([*flags, *self.jobs], tests=tests, keeps=False)
         kept = ["--incremental", "out/kept-tests" if tests else "out/kept"]
-        empty = [] if "--start" in flags else ["--empty-contracts"]
-        return self.rattle(crate, ["check", *words, *kept, "--progress", *empty])
-
-    def try_edits(self, crate, names):
-        """Tries edits in turn, each over what the checks before it proved, and says of each how it went."""
-        if not all(self.build(it) for it in crate.below()):
-            return 1
-        folder = pathlib.Path(crate.folder)
-        edits = [str(folder / f"must-fail/{it}.edit") for it in names] or self.rt.edits_of(crate)[0]
-        status = 0
-        for edit in edits:
-            came_to, said = self.rt.must_fail(crate, edit, self.jobs, str(folder / "out/kept-edits"))
-            if came_to not in (self.rt.REFUSED, self.rt.AT_LIMIT):
-                status = 1
-            print(said, flush=True)
-        return status
+        empty = [] if quick or "--start" in flags else ["--empty-contracts"]
+        return self.timed(crate, ["check", *words, *kept, "--progress", *empty])
 
     def take(self, clone):
         """Keeps the libraries that the gate has built in another clone, where these have the same text."""
@@ -150,20 +142,17 @@ def main(words):
     at = words.index("--") if "--" in words else len(words)
     names, flags = [it for it in words[:at] if not it.startswith("--")], words[at + 1 :]
     asked = {it for it in words[:at] if it.startswith("--")}
-    top = pathlib.Path(__file__).resolve().parent.parent
-    kept = Kept(from_kit(), str(top), os.environ.get("JOBS", "1"))
+    kept = Kept(from_kit(), str(TOP), os.environ.get("JOBS", "1"))
     if asked == {"--apply"} and not names:
         return kept.apply_edits()
     if asked == {"--take"} and len(names) == 1:
         return kept.take(names[0])
-    known = names[:1] if asked == {"--edits"} else names
-    if not known or asked - {"--test", "--edits"} or any(it not in kept.crates for it in known):
+    others = asked - {"--test", "--quick"}
+    if not names or others or any(it not in kept.crates for it in names):
         print(__doc__)
         return 2
-    if asked == {"--edits"}:
-        return kept.try_edits(kept.crates[names[0]], names[1:])
-    tests = "--test" in asked
-    return next((status for it in names if (status := kept.check(kept.crates[it], flags, tests))), 0)
+    how = flags, "--test" in asked, "--quick" in asked
+    return next((status for it in names if (status := kept.check(kept.crates[it], *how))), 0)
 
 
 if __name__ == "__main__":

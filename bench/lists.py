@@ -83,9 +83,22 @@ DEVICES = {
     'read, and written by a BufWriter': 4,
     'read, and written in blocks': 6,
 }
+RULES = {'read': 0, 'strictly': 7, 'by the canonical rules': 8, 'by unique keys': 9}
+RULED = ('u32, five bytes', 'String, 8 bytes', '(u32, bool, String)', 'struct of two u32, by numbers')
 # The Rust crate's way that is the nearest, where it has not the same.
 NEAREST = {5: 2, 6: 4}
 DEVICE_KINDS = 'biuSft'
+
+
+def by_rules(program):
+    """Prints what an item takes to be read, and what strict reading and rules add."""
+    print('| list | ' + ' | '.join(RULES) + ' |')
+    print('|---' * (1 + len(RULES)) + '|')
+    for name in RULED:
+        kind, make = LISTS[name]
+        item = array(make() for _ in range(COUNT))
+        read, *others = (each(program, task, kind.lower() if kind == 'P' else kind, item) for task in RULES.values())
+        print('| ' + ' | '.join([name, f'{read:.1f}', *(f'+{it - read:.1f}' for it in others)]) + ' |', flush=True)
 
 
 def main():
@@ -93,7 +106,10 @@ def main():
     parser.add_argument('word', nargs='?', default='', help='count the lists alone whose name has this in it')
     parser.add_argument('--program', default=OURS, help='count this program in place of lists_bench')
     parser.add_argument('--devices', action='store_true', help='from readers and to a writer')
+    parser.add_argument('--rules', action='store_true', help='what strict reading and rules add')
     chosen = parser.parse_args()
+    if chosen.rules:
+        return by_rules(chosen.program)
     tasks = DEVICES if chosen.devices else SLICES
     print('| list | ' + ' | '.join(f'{task} | Rust crate | times' for task in tasks) + ' |')
     print('|---' * (1 + 3 * len(tasks)) + '|')
