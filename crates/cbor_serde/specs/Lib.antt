@@ -1,1 +1,2 @@
 pub mod Item
+pub use Rattle.cbor_serde_de.specs.Whole

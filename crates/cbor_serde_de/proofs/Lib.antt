@@ -10,3 +10,4 @@ pub mod Rewinds
 pub mod ShortTexts
 pub mod Steps
 pub mod Taking
+pub mod Wholes

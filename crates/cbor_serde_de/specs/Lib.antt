@@ -8,3 +8,4 @@ pub mod Keys
 pub mod Kinds
 pub mod Numbers
 pub mod Places
+pub mod Whole

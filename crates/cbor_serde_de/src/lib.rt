@@ -10,6 +10,7 @@ mod format;
 mod from;
 mod kept;
 mod kind;
+mod laws;
 mod outline;
 mod places;
 mod refusal;
@@ -17,5 +18,6 @@ mod stream;
 
 pub use cbor::{Cbor, Mark};
 pub use from::{from_bytes, from_reader, from_reader_with};
+pub use laws::whole_item;
 pub use refusal::Refusal;
 pub use stream::Stream;

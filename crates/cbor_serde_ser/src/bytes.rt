@@ -67,6 +67,7 @@ fn holds_text(text: &str)
 }
 
 /// Appends a string: its head, and what it holds.
+#[inline(always)]
 pub(crate) fn put_string(out: &mut Vec<u8>, major: Major, content: &[u8]) -> Done
     ensures content { is_bytes content.now ≡ true }
     ensures appended { OnOk result
@@ -78,8 +79,16 @@ pub(crate) fn put_string(out: &mut Vec<u8>, major: Major, content: &[u8]) -> Don
 }
 
 /// Appends a text.
-#[inline(always)]
 pub(crate) fn put_text(out: &mut Vec<u8>, text: &str) -> Done
+    ensures content { is_text text.now ≡ true }
+    ensures appended { OnOk result (out.new.items ≡ out.old.items ++ string 3 text.now) }
+{
+    put_text_inline(out, text)
+}
+
+// The same where the text is mostly a name of the program: its head is then known when it's compiled.
+#[inline(always)]
+fn put_text_inline(out: &mut Vec<u8>, text: &str) -> Done
     ensures content { is_text text.now ≡ true }
     ensures appended { OnOk result (out.new.items ≡ out.old.items ++ string 3 text.now) }
 {
@@ -134,7 +143,7 @@ pub(crate) fn put_name(out: &mut Vec<u8>, name: &str, as_integer: bool) -> Step<
     if as_integer {
         return put_key(out, name);
     }
-    put_text(out, name)?;
+    put_text_inline(out, name)?;
     Ok(())
 }
 
