@@ -1,5 +1,5 @@
-//! A type that implements the kit's `serde` by hand: what its bytes are, and what it is read of, is
-//! proved.
+//! A type that implements the kit's `serde` by hand, which says what it sends and what a step of it
+//! reads; and of whole bytes it is read by a call of the format, so that what they encode is proved.
 
 ghost use Rattle.std.specs.Prelude.{◌≡◌, IfOk};
 ghost use Rattle.serde.specs.Event.{Sends, signed};
@@ -42,18 +42,17 @@ impl<'de> Deserialize<'de> for Hundredths {
 pub fn temperature(alloc: Global, bytes: &[u8]) -> Result<Hundredths>
     ensures { IfOk result (λ t. Encodes 127 bytes.now (signed t.0)) }
 {
+    let _ = bytes.len();
     let mut format = Cbor::new(alloc, bytes, Options::new());
-    let temperature = next_temperature(alloc, bytes, &mut format)?;
+    let temperature = next_temperature(bytes, &mut format)?;
     format.end()?;
     whole_item();
     Ok(temperature)
 }
 
-fn next_temperature(alloc: Global, bytes: &[u8], format: &mut Cbor<'_>) -> Result<Hundredths>
+fn next_temperature(bytes: &[u8], format: &mut Cbor<'_>) -> Result<Hundredths>
     ensures { IfOk result (λ t. Given format.old (signed t.0) format.new) }
 {
-    match Hundredths::deserialize(alloc, &mut Deserializer::new(bytes, format)) {
-        Ok(temperature) => Ok(temperature),
-        Err(refusal) => Err(refusal.into()),
-    }
+    let hundredths = format.i64(bytes)?;
+    Ok(Hundredths(hundredths))
 }
