@@ -1,9 +1,14 @@
 //! Laws over calls: what a form's call writes, the form's rules accept.
 
+ghost use Rattle.std.specs.Prelude.{IfErr, OnOk};
+ghost use Rattle.cbor_model.specs.Canonical.{canon};
 ghost use Rattle.cbor_model.specs.Document.{IsStorableDocument};
 ghost use Rattle.cbor_convert.specs.Meaning.{value_of};
+ghost use Rattle.cbor_forms.specs.LengthFirst.{length_first};
 ghost use Rattle.cbor_forms.specs.Shortened.{IsReducible, KeepsKeys, reduced, shortened};
+ghost use Rattle.cbor_forms.specs.declared.values.Form.TheVariants.{Core, Dcbor};
 ghost use Rattle.cbor_rules.specs.Presets.{IsReadBack};
+ghost use Rattle.cbor_rules.specs.Written.{IsNotReadBack, IsWritable};
 
 use crate::answers::Refusal;
 use crate::from::from_slice_with;
@@ -34,9 +39,16 @@ pub fn write_and_read_deterministic<T: Serialize>(
     alloc: Global,
     value: &T,
 ) -> Result<Value, Refusal>
+    // What can be written, and nests at most 127 levels, is read as itself with its floats at their
+    // shortest, unless memory runs out.
     ensures read_back { IsStorableDocument (T.document value.now)
         → KeepsKeys (value_of (T.document value.now))
         → IsReadBack (shortened (value_of (T.document value.now))) result }
+    // Only what can be written is read.
+    ensures writable { OnOk result (IsWritable Core (T.document value.now)) }
+    // What can't be written is refused as in writing; what can, where memory runs out, and where it
+    // nests deeper.
+    ensures refused { IfErr result (IsNotReadBack Core canon (T.document value.now)) }
 {
     deterministic_written_is_accepted();
     shortened_has_shortest_floats();
@@ -53,9 +65,16 @@ pub fn write_and_read_deterministic<T: Serialize>(
 /// assert_eq!(rt; value.as_f64(), Some(1.5));
 /// ```
 pub fn write_and_read_length_first<T: Serialize>(alloc: Global, value: &T) -> Result<Value, Refusal>
+    // What can be written, and nests at most 127 levels, is read as itself with its floats at their
+    // shortest, unless memory runs out.
     ensures read_back { IsStorableDocument (T.document value.now)
         → KeepsKeys (value_of (T.document value.now))
         → IsReadBack (shortened (value_of (T.document value.now))) result }
+    // Only what can be written is read.
+    ensures writable { OnOk result (IsWritable Core (T.document value.now)) }
+    // What can't be written is refused as in writing; what can, where memory runs out, and where it
+    // nests deeper.
+    ensures refused { IfErr result (IsNotReadBack Core length_first (T.document value.now)) }
 {
     length_first_written_is_accepted();
     shortened_has_shortest_floats();
@@ -72,9 +91,16 @@ pub fn write_and_read_length_first<T: Serialize>(alloc: Global, value: &T) -> Re
 /// assert_eq!(rt; value.as_integer(), Some(2));
 /// ```
 pub fn write_and_read_dcbor<T: Serialize>(alloc: Global, value: &T) -> Result<Value, Refusal>
+    // What can be written, and nests at most 127 levels, is read as itself with dCBOR's numbers,
+    // unless memory runs out.
     ensures read_back { IsStorableDocument (T.document value.now)
         → IsReducible (value_of (T.document value.now))
         → IsReadBack (reduced (value_of (T.document value.now))) result }
+    // Only what can be written is read.
+    ensures writable { OnOk result (IsWritable Dcbor (T.document value.now)) }
+    // What can't be written is refused as in writing; what can, where memory runs out, and where it
+    // nests deeper.
+    ensures refused { IfErr result (IsNotReadBack Dcbor canon (T.document value.now)) }
 {
     dcbor_written_is_accepted();
     reduced_has_reduced_numbers();
