@@ -1,7 +1,7 @@
 -- What is encoded with shorter keys first is read back.
 use Rattle.std.proofs.Common.{◌≡◌, ◌∙◌, sym, ap, ap₂, subst, refl, arith}
 use Rattle.std.proofs.lemmas.Bool.{ltb-true, cond_both}
-use Rattle.std.specs.Prelude.{ℕ, suc, ◌+◌, ◌-◌, ◌^◌, ◌<◌, ◌≤◌, List, [], ◌++◌, IsUtf8, false, ltb}
+use Rattle.std.specs.Prelude.{ℕ, suc, ◌-◌, ◌^◌, ◌<◌, ◌≤◌, List, [], ◌++◌, IsUtf8, false, ltb}
 use Rattle.cbor_model.specs.Head.{no_bytes, one_byte, two_bytes, four_bytes}
 use Rattle.cbor_model.specs.Head.{limit, least, short}
 use Rattle.cbor_model.specs.Raw as raw

@@ -5,7 +5,7 @@ use Rattle.cbor_model.specs.Acceptable.{IsAcceptableWithin}
 use Rattle.cbor_model.specs.Canonical.{canon, canonical, IsStorable, IsOrdered}
 use Rattle.cbor_model.specs.Document.{document_bytes, document_of, raw_of, IsDocumentInRange}
 use Rattle.cbor_model.specs.Plain.{Val}
-use Rattle.cbor_model.specs.Raw.{Raw, depth}
+use Rattle.cbor_model.specs.Raw.{depth}
 use Rattle.cbor_model.proofs.facts.Documents.{document_is_canonical, document_item, storable_document}
 use Rattle.cbor_model.proofs.facts.Laws.{canonical_reads_back, document_is_acceptable}
 use Rattle.cbor_forms.specs.Encoded.{SpellsAtDepth}
