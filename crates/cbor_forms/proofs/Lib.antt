@@ -7,3 +7,4 @@ mod Refused
 mod Encoding
 mod Sorted
 mod ReadBack
+pub mod Spelled

@@ -1,7 +1,7 @@
 -- What is encoded with shorter keys first is read back.
 use Rattle.std.proofs.Common.{◌≡◌, ◌∙◌, sym, ap, ap₂, subst, refl, arith}
 use Rattle.std.proofs.lemmas.Bool.{ltb-true, cond_both}
-use Rattle.std.specs.Prelude.{ℕ, suc, ◌+◌, ◌-◌, ◌^◌, ◌<◌, ◌≤◌, List, [], ◌++◌, IsUtf8, false, ltb}
+use Rattle.std.specs.Prelude.{ℕ, suc, ◌-◌, ◌^◌, ◌<◌, ◌≤◌, List, [], ◌++◌, IsUtf8, false, ltb}
 use Rattle.cbor_model.specs.Head.{no_bytes, one_byte, two_bytes, four_bytes}
 use Rattle.cbor_model.specs.Head.{limit, least, short}
 use Rattle.cbor_model.specs.Raw as raw
@@ -21,6 +21,7 @@ use Rattle.cbor_model.specs.Laws.{SpellsValue}
 use Rattle.cbor_model.proofs.facts.Laws.{document_is_acceptable, canonical_reads_back}
 use Rattle.cbor_model.proofs.facts.Documents.{document_item, storable_document, document_in_range}
 use Rattle.cbor_model.proofs.facts.Maps.{KeysAscend-from_IsOrdered, put_all-ascending}
+use Rattle.cbor_forms.specs.Encoded.{SpellsAtDepth}
 use Rattle.cbor_forms.specs.LengthFirst.{length_first, all_length_first, joined}
 use Rattle.cbor_forms.proofs.Keys.{ascending_distinct}
 use Rattle.cbor_forms.proofs.Sorted.{FitPairs, Encodes, PairsEncode, sorted}
@@ -199,3 +200,17 @@ read_from s v start wrote same st or mem none is_written nests =
     is_written ∙ ap₂ (λ x y. x ++ length_first y) none same in
     subst (λ (bs : List ℕ). SpellsValue bs s) (sym is)
     (read_back s (subst IsStorable same st) or (subst IsInMemory same mem) nests)
+
+-- and however deep it nests, an item is encoded so of which it is the value
+pub spelled_from : (s v : Val) (start wrote : List ℕ) → v ≡ s → IsStorable v → IsOrdered s
+    → IsInMemory v → start ≡ [] → wrote ≡ start ++ length_first v → SpellsAtDepth wrote s
+spelled_from s v start wrote same st or mem none is_written =
+    let is : wrote ≡ length_first s =
+    is_written ∙ ap₂ (λ x y. x ++ length_first y) none same in
+    let e = encodes s (depth (canonical s)) (subst IsStorable same st) or
+    (subst IsInMemory same mem) (omega arith) in record {
+      item = e.item;
+      acceptable = record { fits = e.fit.fits; nests = e.fit.nests; texts = e.fit.texts };
+      spelled = e.spelled ∙ sym is;
+      valued = sym e.valued;
+    }

@@ -3,3 +3,4 @@ pub mod Whole
 pub mod Shortened
 pub mod Deterministic
 pub mod LengthFirst
+pub mod Encoded

@@ -7,6 +7,7 @@ ghost use Rattle.cbor_convert.specs.Meaning.{value_of};
 ghost use Rattle.cbor_forms.specs.Shortened.{shortened, reduced, IsReducible, KeepsKeys};
 ghost use Rattle.cbor_forms.specs.Deterministic.{IsDcborSpelling, IsDeterministicSpelling};
 ghost use Rattle.cbor_forms.specs.Deterministic.{IsNotWrittenIn};
+ghost use Rattle.cbor_forms.specs.Encoded.{SpellsAtDepth};
 ghost use Rattle.cbor_forms.specs.declared.values.Form.TheVariants.{Core, Dcbor};
 
 use crate::values::{reduced, shortened};
@@ -33,6 +34,9 @@ pub fn to_vec_deterministic<T: Serialize>(alloc: Global, value: &T) -> Result<Ve
         (λ bytes. IsDeterministicSpelling bytes.items (value_of (T.document value.now))) }
     // So it is read back, where it nests at most 127 levels.
     ensures ordered { OnOk result (IsOrdered (shortened (value_of (T.document value.now)))) }
+    // However deep it nests, the bytes encode one item, of which it is the value.
+    ensures encoded { IfOk result
+        (λ bytes. SpellsAtDepth bytes.items (shortened (value_of (T.document value.now)))) }
     // Memory aside, it refuses exactly what can't be stored, and keys that become one.
     ensures storable { OnOk result (IsStorableDocument (T.document value.now)) }
     ensures kept { OnOk result (KeepsKeys (value_of (T.document value.now))) }
@@ -63,6 +67,9 @@ pub fn to_vec_dcbor<T: Serialize>(alloc: Global, value: &T) -> Result<Vec<u8>>
         (λ bytes. IsDcborSpelling bytes.items (value_of (T.document value.now))) }
     // So it is read back, where it nests at most 127 levels.
     ensures ordered { OnOk result (IsOrdered (reduced (value_of (T.document value.now)))) }
+    // However deep it nests, the bytes encode one item, of which it is the value.
+    ensures encoded { IfOk result
+        (λ bytes. SpellsAtDepth bytes.items (reduced (value_of (T.document value.now)))) }
     // Memory aside, it refuses exactly what can't be stored, and what dCBOR doesn't have: keys that
     // become one, and integers below -2^63.
     ensures storable { OnOk result (IsStorableDocument (T.document value.now)) }

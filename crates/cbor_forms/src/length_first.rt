@@ -17,6 +17,7 @@ ghost use Rattle.cbor_value.specs.View.{view, views, map_view, pair_views};
 ghost use Rattle.cbor_convert.specs.Meaning.{value_of};
 ghost use Rattle.cbor_forms.specs.Shortened.{shortened, KeepsKeys};
 ghost use Rattle.cbor_forms.specs.Deterministic.{IsNotWrittenIn};
+ghost use Rattle.cbor_forms.specs.Encoded.{SpellsAtDepth};
 ghost use Rattle.cbor_forms.specs.declared.values.Form.TheVariants.{Core};
 ghost use Rattle.cbor_forms.specs.LengthFirst.{length_first, all_length_first, encoded};
 ghost use Rattle.cbor_forms.specs.LengthFirst.{content, joined};
@@ -52,6 +53,9 @@ pub fn to_vec_length_first<T: Serialize>(alloc: Global, value: &T) -> Result<Vec
     ensures read_back { IfOk result (λ bytes.
         depth (canonical (shortened (value_of (T.document value.now)))) ≤ max_depth
         → SpellsValue bytes.items (shortened (value_of (T.document value.now)))) }
+    // However deep it nests, the bytes encode one item, of which it is the value.
+    ensures encoded { IfOk result
+        (λ bytes. SpellsAtDepth bytes.items (shortened (value_of (T.document value.now)))) }
     // Memory aside, it refuses exactly what can't be stored, and keys that become one.
     ensures storable { OnOk result (IsStorableDocument (T.document value.now)) }
     ensures kept { OnOk result (KeepsKeys (value_of (T.document value.now))) }

@@ -8,6 +8,7 @@ pub mod ChunkSteps
 pub mod MetKeys
 pub mod Kept
 pub mod Reading
+pub mod Deep
 pub mod ReadBack
 pub mod CheckedFirst
 pub mod Fronts

@@ -63,7 +63,7 @@ fn is_canonical(alloc: Global, key: &[u8]) -> bool
 }
 
 // Tells a proof that what a slice holds is below 256, and fewer than 2^64.
-fn are_bytes(slice: &[u8])
+pub(crate) fn are_bytes(slice: &[u8])
     ensures bytes { AreBytes slice.now }
     ensures short { length slice.now < 2 ^ 64 }
 {

@@ -8,9 +8,10 @@ ghost use Rattle.cbor_forms.specs.LengthFirst.{length_first};
 ghost use Rattle.cbor_forms.specs.Shortened.{IsReducible, KeepsKeys, reduced, shortened};
 ghost use Rattle.cbor_forms.specs.declared.values.Form.TheVariants.{Core, Dcbor};
 ghost use Rattle.cbor_rules.specs.Presets.{IsReadBack};
-ghost use Rattle.cbor_rules.specs.Written.{IsNotReadBack, IsWritable};
+ghost use Rattle.cbor_rules.specs.Written.{IsNotReadBack, IsReadable};
 
 use crate::answers::Refusal;
+use crate::canonical_key::are_bytes;
 use crate::from::from_slice_with;
 use crate::laws::{
     dcbor_written_is_accepted, deterministic_written_is_accepted, length_first_written_is_accepted,
@@ -44,15 +45,16 @@ pub fn write_and_read_deterministic<T: Serialize>(
     ensures read_back { IsStorableDocument (T.document value.now)
         → KeepsKeys (value_of (T.document value.now))
         → IsReadBack (shortened (value_of (T.document value.now))) result }
-    // Only what can be written is read.
-    ensures writable { OnOk result (IsWritable Core (T.document value.now)) }
+    // Nothing else is read.
+    ensures readable { OnOk result (IsReadable Core (T.document value.now)) }
     // What can't be written is refused as in writing; what can, where memory runs out, and where it
-    // nests deeper.
+    // nests deeper, for that. Nothing is refused for a departure.
     ensures refused { IfErr result (IsNotReadBack Core canon (T.document value.now)) }
 {
     deterministic_written_is_accepted();
     shortened_has_shortest_floats();
     let bytes = to_vec_deterministic(alloc, value)?;
+    are_bytes(&bytes);
     from_slice_with(alloc, &bytes, Rules::DETERMINISTIC)
 }
 
@@ -70,15 +72,16 @@ pub fn write_and_read_length_first<T: Serialize>(alloc: Global, value: &T) -> Re
     ensures read_back { IsStorableDocument (T.document value.now)
         → KeepsKeys (value_of (T.document value.now))
         → IsReadBack (shortened (value_of (T.document value.now))) result }
-    // Only what can be written is read.
-    ensures writable { OnOk result (IsWritable Core (T.document value.now)) }
+    // Nothing else is read.
+    ensures readable { OnOk result (IsReadable Core (T.document value.now)) }
     // What can't be written is refused as in writing; what can, where memory runs out, and where it
-    // nests deeper.
+    // nests deeper, for that. Nothing is refused for a departure.
     ensures refused { IfErr result (IsNotReadBack Core length_first (T.document value.now)) }
 {
     length_first_written_is_accepted();
     shortened_has_shortest_floats();
     let bytes = to_vec_length_first(alloc, value)?;
+    are_bytes(&bytes);
     from_slice_with(alloc, &bytes, Rules::LENGTH_FIRST)
 }
 
@@ -96,14 +99,15 @@ pub fn write_and_read_dcbor<T: Serialize>(alloc: Global, value: &T) -> Result<Va
     ensures read_back { IsStorableDocument (T.document value.now)
         → IsReducible (value_of (T.document value.now))
         → IsReadBack (reduced (value_of (T.document value.now))) result }
-    // Only what can be written is read.
-    ensures writable { OnOk result (IsWritable Dcbor (T.document value.now)) }
+    // Nothing else is read.
+    ensures readable { OnOk result (IsReadable Dcbor (T.document value.now)) }
     // What can't be written is refused as in writing; what can, where memory runs out, and where it
-    // nests deeper.
+    // nests deeper, for that. Nothing is refused for a departure.
     ensures refused { IfErr result (IsNotReadBack Dcbor canon (T.document value.now)) }
 {
     dcbor_written_is_accepted();
     reduced_has_reduced_numbers();
     let bytes = to_vec_dcbor(alloc, value)?;
+    are_bytes(&bytes);
     from_slice_with(alloc, &bytes, Rules::DCBOR)
 }

@@ -1,9 +1,11 @@
-use Rattle.std.proofs.Common.{sym, subst}
+use Rattle.std.proofs.Common.{◌∙◌, ap, sym, subst}
 use Rattle.cbor_model.specs.Canonical.{IsStorable}
 use Rattle.cbor_value.specs.View.{view}
+use Rattle.cbor_forms.specs.Shortened.{shortened}
 use Rattle.cbor_forms.specs.declared.values.Form.TheVariants.{Core}
 use Rattle.cbor_forms.proofs.Forms.{ordered, storable}
 use Rattle.cbor_forms.proofs.Refused.{no_memory, on_ok_always}
+use Rattle.cbor_forms.proofs.Spelled.{written_spells}
 use Rattle.cbor_forms.proofs.deterministic.to_vec_deterministic.Goals as goal
 
 pub returns-clause-ordered : goal.returns-clause-ordered
@@ -14,3 +16,10 @@ returns-clause-refused g c =
     let stored = storable Core (view c.in_ok-value.value) c.in_ok-value.ensures.stored in
     no_memory Core c.to_vec.result (view c.in_ok-value-2.value) _ _
     (subst IsStorable (sym c.in_ok-value-2.ensures.shortened) stored) c.to_vec.ensures.refused
+
+pub returns-clause-encoded : goal.returns-clause-encoded
+returns-clause-encoded g c =
+    let same = c.in_ok-value-2.ensures.shortened in
+    let stored = storable Core (view c.in_ok-value.value) c.in_ok-value.ensures.stored in
+    written_spells (λ bytes. bytes.items) c.to_vec.result (view c.in_ok-value-2.value) _ (same ∙ ap shortened c.in_ok-value.ensures.value)
+    (subst IsStorable (sym same) stored) (ordered Core _) c.to_vec.ensures.in_range c.to_vec.ensures.written

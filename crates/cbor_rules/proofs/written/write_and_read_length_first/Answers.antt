@@ -1,9 +1,10 @@
-use Rattle.std.proofs.Common.{◌^◌, ◌<◌, arith, length}
+use Rattle.std.proofs.Common.{◌+◌, ◌^◌, ◌<◌, arith, length, subst}
+use Rattle.cbor_model.specs.Raw.{AreBytes}
 use Rattle.cbor_forms.specs.LengthFirst.{length_first}
 use Rattle.cbor_convert.specs.Meaning.{value_of}
 use Rattle.cbor_forms.specs.Shortened.{shortened}
 use Rattle.cbor_forms.specs.declared.values.Form.TheVariants.{Core}
-use Rattle.cbor_rules.proofs.ReadBack.{in_reading, in_writing, is_read, unwritten}
+use Rattle.cbor_rules.proofs.ReadBack.{in_reading, in_writing, is_read, readable, unwritten}
 use Rattle.cbor_rules.proofs.written.write_and_read_length_first.Goals as goal
 
 pub returns-in_err-bytes-clause-read_back : goal.returns-in_err-bytes-clause-read_back
@@ -19,22 +20,34 @@ returns-clause-read_back g c stored kept =
     let d = g.T.Serialize.document c.args.value.now in
     let v = shortened (value_of d) in
     let bytes = c.in_ok-bytes.bytes in
-    let short : length bytes.items < 2 ^ 64 = omega (arith, bytes.small) in
-    let every = rw c.deref.ensures.value at c.from_slice_with.ensures.every in
-    is_read Core length_first d _ (c.in_ok-bytes.ensures.storable, c.in_ok-bytes.ensures.kept) bytes.items short c.in_ok-bytes.ensures.written
-    (λ nests. c.in_ok-bytes.ensures.read_back nests)
-    (λ is. c.length_first_written_is_accepted.ensures.kept bytes.items v short is (c.shortened_has_shortest_floats.ensures _, c.in_ok-bytes.ensures.written))
+    let short : length bytes.items + 1 < 2 ^ 64 = omega (arith, bytes.small) in
+    let are = subst AreBytes c.deref.ensures.value c.are_bytes.ensures.bytes in
+    let every = rw c.deref-2.ensures.value at c.from_slice_with.ensures.every in
+    is_read _ bytes.items v short are c.in_ok-bytes.ensures.encoded
+    (λ is. c.length_first_written_is_accepted.ensures.kept bytes.items v (omega (arith, short)) is (c.shortened_has_shortest_floats.ensures _, c.in_ok-bytes.ensures.written))
     c.from_slice_with.result every
+
+pub returns-clause-readable : goal.returns-clause-readable
+returns-clause-readable g c =
+    let d = g.T.Serialize.document c.args.value.now in
+    let v = shortened (value_of d) in
+    let bytes = c.in_ok-bytes.bytes in
+    let short : length bytes.items + 1 < 2 ^ 64 = omega (arith, bytes.small) in
+    let are = subst AreBytes c.deref.ensures.value c.are_bytes.ensures.bytes in
+    let found = rw c.deref-2.ensures.value at c.from_slice_with.ensures.found in
+    readable Core length_first d _ (c.in_ok-bytes.ensures.storable, c.in_ok-bytes.ensures.kept) bytes.items short are c.in_ok-bytes.ensures.written c.in_ok-bytes.ensures.encoded
+    (λ is. c.length_first_written_is_accepted.ensures.kept bytes.items v (omega (arith, short)) is (c.shortened_has_shortest_floats.ensures _, c.in_ok-bytes.ensures.written))
+    c.from_slice_with.result found
 
 pub returns-clause-refused : goal.returns-clause-refused
 returns-clause-refused g c =
     let d = g.T.Serialize.document c.args.value.now in
     let v = shortened (value_of d) in
     let bytes = c.in_ok-bytes.bytes in
-    let short : length bytes.items < 2 ^ 64 = omega (arith, bytes.small) in
-    let every = rw c.deref.ensures.value at c.from_slice_with.ensures.every in
-    let first = rw c.deref.ensures.value at c.from_slice_with.ensures.first in
-    in_reading Core length_first d _ (c.in_ok-bytes.ensures.storable, c.in_ok-bytes.ensures.kept) bytes.items short c.in_ok-bytes.ensures.written
-    (λ nests. c.in_ok-bytes.ensures.read_back nests)
-    (λ is. c.length_first_written_is_accepted.ensures.kept bytes.items v short is (c.shortened_has_shortest_floats.ensures _, c.in_ok-bytes.ensures.written))
-    c.from_slice_with.result every first
+    let short : length bytes.items + 1 < 2 ^ 64 = omega (arith, bytes.small) in
+    let are = subst AreBytes c.deref.ensures.value c.are_bytes.ensures.bytes in
+    let first = rw c.deref-2.ensures.value at c.from_slice_with.ensures.first in
+    let departed = rw c.deref-2.ensures.value at c.from_slice_with.ensures.departed in
+    in_reading Core length_first d _ (c.in_ok-bytes.ensures.storable, c.in_ok-bytes.ensures.kept) bytes.items short are c.in_ok-bytes.ensures.written c.in_ok-bytes.ensures.encoded
+    (λ is. c.length_first_written_is_accepted.ensures.kept bytes.items v (omega (arith, short)) is (c.shortened_has_shortest_floats.ensures _, c.in_ok-bytes.ensures.written))
+    c.from_slice_with.result first departed
