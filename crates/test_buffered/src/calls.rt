@@ -1,8 +1,9 @@
 //! Each call of the source, over readers that give one byte a call, some, or all.
 
-use crate::checks::{in_pieces, is_at, is_behind, is_filled, is_next, is_read, refused};
+use crate::checks::{in_pieces, is_next};
+use crate::devices::Pieces;
+use crate::script::{Call, Step, plays};
 use cbor_buffered::BufferedRead;
-use cbor_read::{Offset, Source};
 use std::alloc::{AllocError, Global};
 use std::process::Abort;
 use std::test::Fail;
@@ -11,31 +12,35 @@ use test_checks::Done;
 // How many bytes a reader gives a call.
 const PIECES: [usize; 3] = [1, 7, 10_000];
 
-fn hands_out(rt: &impl Abort, alloc: Global, piece: usize) -> Done {
-    let mut source = in_pieces(alloc, b"abcdefghijklmn", piece)?;
-    is_next(rt, &mut source, Some(b'a'))?;
-    is_read(rt, &mut source, b"bcd")?;
-    source.clear_buffer();
-    source.read_to_buffer(2)?;
-    source.read_to_buffer(1)?;
-    assert!(rt; source.buffer() == b"efg".as_slice());
-    source.skip(1)?;
-    is_filled(rt, alloc, &mut source, b"ij")?;
-    is_at(rt, &source, 10)?;
-    is_behind(rt, alloc, &mut source, b"kl")?;
-    is_read(rt, &mut source, b"")?;
-    assert!(rt; source.skip_text(1)? == 1);
-    assert!(rt; source.byte_offset() == 13);
-    is_next(rt, &mut source, Some(b'n'))?;
-    is_next(rt, &mut source, None)?;
-    is_at(rt, &source, 14)?;
-    refused(source.skip(1), "EOF while parsing a value at offset 14")
+/// The source of these bytes, of which its reader gives so many a call, answers so.
+fn answers(rt: &impl Abort, alloc: Global, bytes: &[u8], piece: usize, script: &[Step]) -> Done {
+    plays(rt, alloc, &mut in_pieces(alloc, bytes, piece)?, script)
 }
+
+const HANDS_OUT: &[Step] = &[
+    Step::Next(Some(b'a')),
+    Step::Read(b"bcd"),
+    Step::Clear,
+    Step::Does(Call::Join(2)),
+    Step::Does(Call::Join(1)),
+    Step::Buffer(b"efg"),
+    Step::Does(Call::Skip(1)),
+    Step::Filled(b"ij"),
+    Step::At(10),
+    Step::Behind(b"kl"),
+    Step::Read(b""),
+    Step::SkipText(1, 1),
+    Step::At(13),
+    Step::Next(Some(b'n')),
+    Step::Next(None),
+    Step::At(14),
+    Step::Refuses(Call::Skip(1), "EOF while parsing a value at offset 14"),
+];
 
 #[test]
 fn hands_out_each_byte_once_and_in_order(rt: HostRuntime) -> Done {
     for piece in PIECES {
-        hands_out(&rt, rt.alloc(), piece)?;
+        answers(&rt, rt.alloc(), b"abcdefghijklmn", piece, HANDS_OUT)?;
     }
     Ok(())
 }
@@ -55,92 +60,118 @@ fn part(bytes: &[u8], start: usize, end: usize) -> Result<&[u8], Fail> {
 }
 
 // Blocks of 8 KiB end within each part.
-fn hands_out_long(rt: &impl Abort, alloc: Global, bytes: &[u8], piece: usize) -> Done {
-    let mut source = in_pieces(alloc, bytes, piece)?;
-    is_read(rt, &mut source, part(bytes, 0, 9000)?)?;
-    is_behind(rt, alloc, &mut source, part(bytes, 9000, 18_000)?)?;
-    source.skip(1990)?;
-    is_filled(rt, alloc, &mut source, part(bytes, 19_990, 20_000)?)?;
-    is_next(rt, &mut source, None)?;
-    is_at(rt, &source, 20_000)
-}
-
 #[test]
 fn hands_out_what_is_longer_than_a_block(rt: HostRuntime) -> Done {
     let bytes = long(rt.alloc())?;
+    let script = [
+        Step::Read(part(&bytes, 0, 9000)?),
+        Step::Behind(part(&bytes, 9000, 18_000)?),
+        Step::Does(Call::Skip(1990)),
+        Step::Filled(part(&bytes, 19_990, 20_000)?),
+        Step::Next(None),
+        Step::At(20_000),
+    ];
     for piece in [4099, 20_000] {
-        hands_out_long(&rt, rt.alloc(), &bytes, piece)?;
+        answers(&rt, rt.alloc(), &bytes, piece, &script)?;
     }
     Ok(())
 }
 
-fn counts_text(rt: &impl Abort, alloc: Global, piece: usize) -> Done {
-    let mut source = in_pieces(alloc, b"\xe2\x82\xac\xff\xe2\x82", piece)?;
-    assert!(rt; source.skip_text(4)? == 3);
-    assert!(rt; source.skip_text(2)? == 0);
-    refused(source.skip_text(1), "EOF while parsing a value at offset 6")
-}
+const COUNTS_UTF8: &[Step] = &[
+    Step::SkipText(4, 3),
+    Step::SkipText(2, 0),
+    Step::Refuses(Call::SkipText(1), "EOF while parsing a value at offset 6"),
+];
 
 // A euro sign, a byte that is in no UTF-8, and a part of a sign (RFC 3629, section 3).
 #[test]
 fn counts_the_utf8_of_what_it_skips(rt: HostRuntime) -> Done {
     for piece in PIECES {
-        counts_text(&rt, rt.alloc(), piece)?;
+        answers(
+            &rt,
+            rt.alloc(),
+            b"\xe2\x82\xac\xff\xe2\x82",
+            piece,
+            COUNTS_UTF8,
+        )?;
     }
     Ok(())
 }
 
+/// What a source leaves after a script: what it read ahead, and what its reader has after so many
+/// calls.
+fn leaves(
+    rt: &impl Abort,
+    alloc: Global,
+    source: BufferedRead<Pieces<'_>>,
+    script: &[Step],
+    (ahead, rest, calls): (&[u8], &[u8], usize),
+) -> Done {
+    let mut source = source;
+    plays(rt, alloc, &mut source, script)?;
+    let (reader, unread) = source.into_inner();
+    assert!(rt; unread.as_slice() == ahead);
+    assert!(rt; reader.rest == rest);
+    assert!(rt; reader.calls == calls);
+    Ok(())
+}
+
+const FROM_A_BLOCK: &[Step] = &[
+    Step::Next(Some(b'a')),
+    Step::Ahead(b"bcdef"),
+    Step::Advance(2),
+    Step::Read(b"def"),
+];
+
 #[test]
 fn asks_its_reader_once_for_what_is_in_a_block(rt: HostRuntime) -> Done {
-    let mut source = in_pieces(rt.alloc(), b"abcdef", 10)?;
-    is_next(&rt, &mut source, Some(b'a'))?;
-    assert!(&rt; source.ahead() == b"bcdef".as_slice());
-    source.advance(2);
-    is_read(&rt, &mut source, b"def")?;
-    let (reader, _ahead) = source.into_inner();
-    assert!(&rt; reader.calls == 1);
-    Ok(())
+    let source = in_pieces(rt.alloc(), b"abcdef", 10)?;
+    leaves(&rt, rt.alloc(), source, FROM_A_BLOCK, (b"", b"", 1))
 }
 
 #[test]
 fn hands_back_what_it_read_ahead(rt: HostRuntime) -> Done {
-    let source = in_pieces(rt.alloc(), b"abcdefgh", 5)?;
-    let (reader, ahead) = source.into_inner();
-    assert!(&rt; ahead.is_empty() && reader.calls == 0);
-
-    let mut source = in_pieces(rt.alloc(), b"abcdefgh", 5)?;
-    is_read(&rt, &mut source, b"abc")?;
-    let (reader, ahead) = source.into_inner();
-    assert!(&rt; ahead.as_slice() == b"de".as_slice());
-    assert!(&rt; reader.rest == b"fgh".as_slice());
-    Ok(())
+    let alloc = rt.alloc();
+    let unasked = in_pieces(alloc, b"abcdefgh", 5)?;
+    leaves(&rt, alloc, unasked, &[], (b"", b"abcdefgh", 0))?;
+    let source = in_pieces(alloc, b"abcdefgh", 5)?;
+    let script = [Step::Read(b"abc")];
+    leaves(&rt, alloc, source, &script, (b"de", b"fgh", 1))
 }
+
+const PAST: &str = "length out of range at offset 18446744073709551615";
+
+const NO_BYTE_PAST: &[Step] = &[
+    Step::Next(Some(1)),
+    Step::At(u64::MAX),
+    Step::Refuses(Call::Next, PAST),
+    Step::Refuses(Call::Peek, PAST),
+    Step::Refuses(Call::Skip(1), PAST),
+    Step::Read(b""),
+];
+
+const END: &str = "EOF while parsing a value at offset 18446744073709551615";
+
+const ENDS_THERE: &[Step] = &[
+    Step::Next(Some(1)),
+    Step::Next(None),
+    Step::Refuses(Call::Skip(1), END),
+];
 
 // Offsets are below 2^64: a byte at the last of them can't be counted, and an end there is an end.
 #[test]
 fn counts_no_byte_past_the_last_offset(rt: HostRuntime) -> Done {
-    let past = "length out of range at offset 18446744073709551615";
-    let reader = b"\x01\x02".as_slice();
-    let mut source = BufferedRead::at_offset(rt.alloc(), reader, u64::MAX - 1)?;
-    is_next(&rt, &mut source, Some(1))?;
-    is_at(&rt, &source, u64::MAX)?;
-    refused(source.next(), past)?;
-    refused(source.peek(), past)?;
-    refused(source.skip(1), past)?;
-    is_read(&rt, &mut source, b"")?;
-    let (_reader, ahead) = source.into_inner();
-    assert!(&rt; ahead.as_slice() == b"\x02".as_slice());
+    let alloc = rt.alloc();
+    for (bytes, script, left) in [
+        (&b"\x01\x02"[..], NO_BYTE_PAST, &b"\x02"[..]),
+        (b"\x01", ENDS_THERE, b""),
+    ] {
+        let mut source = BufferedRead::at_offset(alloc, bytes, u64::MAX - 1)?;
+        plays(&rt, alloc, &mut source, script)?;
+        let (_reader, ahead) = source.into_inner();
+        assert!(&rt; ahead.as_slice() == left);
+    }
     Ok(())
-}
-
-#[test]
-fn ends_at_the_last_offset(rt: HostRuntime) -> Done {
-    let reader = b"\x01".as_slice();
-    let mut source = BufferedRead::at_offset(rt.alloc(), reader, u64::MAX - 1)?;
-    is_next(&rt, &mut source, Some(1))?;
-    is_next(&rt, &mut source, None)?;
-    let words = "EOF while parsing a value at offset 18446744073709551615";
-    refused(source.skip(1), words)
 }
 
 #[test]

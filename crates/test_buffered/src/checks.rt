@@ -36,26 +36,20 @@ pub fn is_read<'de>(rt: &impl Abort, source: &mut impl Read<'de>, want: &[u8]) -
     Ok(())
 }
 
-/// The next bytes, taken into a place, are these.
-pub fn is_filled(rt: &impl Abort, alloc: Global, source: &mut impl Source, want: &[u8]) -> Done {
-    let mut place = vec![in alloc; 0; want.len()]?;
-    source.read_into(&mut place)?;
-    assert!(rt; place.as_slice() == want);
+/// The next bytes, taken into a place of up to 16, are these.
+pub fn is_filled(rt: &impl Abort, source: &mut impl Source, want: &[u8]) -> Done {
+    let mut room = [0; 16];
+    let place = &mut room[..want.len().min(16)];
+    source.read_into(place)?;
+    assert!(rt; &*place == want);
     Ok(())
 }
 
 /// The next bytes, taken behind a byte, are these.
 pub fn is_behind(rt: &impl Abort, alloc: Global, source: &mut impl Source, want: &[u8]) -> Done {
-    let mut out = vec![in alloc; b'=']?;
+    let mut out = Vec::from_slice(alloc, b"=")?;
     source.read_to_vec(want.len(), &mut out)?;
-    assert!(rt; out.first() == Some(&b'='));
-    assert!(rt; &out[1..] == want);
-    Ok(())
-}
-
-/// So many bytes were handed out.
-pub fn is_at(rt: &impl Abort, source: &impl Source, want: u64) -> Done {
-    assert!(rt; source.offset() == want);
+    assert!(rt; out.strip_prefix(b"=") == Some(want));
     Ok(())
 }
 

@@ -55,6 +55,8 @@ pub struct Taker {
     piece: usize,
     fails_at: usize,
     kind: ErrorKind,
+    interruptions: usize,
+    left: usize,
 }
 
 impl Taker {
@@ -78,12 +80,27 @@ impl Taker {
             piece,
             fails_at,
             kind,
+            interruptions: 0,
+            left: 0,
         })
+    }
+
+    /// It takes one byte a call, and is interrupted so many times before each.
+    pub fn interrupted(alloc: Global, times: usize) -> Result<Taker, AllocError> {
+        let mut writer = Taker::new(alloc, 1)?;
+        writer.interruptions = times;
+        writer.left = times;
+        Ok(writer)
     }
 }
 
 impl io::Write for Taker {
     fn write(&mut self, buf: &[u8]) -> io::Result<usize> {
+        if self.left > 0 {
+            self.left -= 1;
+            return Err(io::Error::from(ErrorKind::Interrupted));
+        }
+        self.left = self.interruptions;
         self.calls = self.calls.saturating_add(1);
         if self.calls == self.fails_at {
             return Err(io::Error::from(self.kind));

@@ -3,12 +3,14 @@
 
 use crate::devices::Pieces;
 use cbor_buffered::BufferedRead;
-use cbor_de::{Deserialize, Deserializer, StreamDeserializer};
+use cbor_de::{Deserialize, Deserializer, StreamDeserializer, from_slice};
 use cbor_diagnostic::to_diagnostic;
+use cbor_io::error::Result as Answer;
 use cbor_read::ReadError;
 use cbor_value::Value;
 use std::alloc::Global;
 use std::process::Abort;
+use std::test::Fail;
 use test_checks::{Done, is_refused};
 
 // How many bytes a reader gives a call.
@@ -32,6 +34,34 @@ pub const EXAMPLES: [(&[u8], &str); 9] = [
     ),
 ];
 
+// Others, whose spellings are what is written.
+pub const WRITTEN: [(&[u8], &str); 6] = [
+    (b"\x19\x03\xe8", "1000"),
+    (b"\x39\x03\xe7", "-1000"),
+    (b"\xfb\x3f\xf1\x99\x99\x99\x99\x99\x9a", "1.1"),
+    (b"\x64IETF", "\"IETF\""),
+    (b"\x60", "\"\""),
+    (b"\x82\x01\xf5", "[1, true]"),
+];
+
+/// An example by its bytes, which is the one of this notation.
+pub fn example(
+    rt: &impl Abort,
+    alloc: Global,
+    bytes: &[u8],
+    notation: &str,
+) -> Result<Value, Fail> {
+    let value = from_slice(alloc, bytes)?;
+    is_noted(rt, alloc, &value, notation)?;
+    Ok(value)
+}
+
+/// The value has this notation.
+pub fn is_noted(rt: &impl Abort, alloc: Global, value: &Value, notation: &str) -> Done {
+    assert!(rt; to_diagnostic(alloc, value)?.as_str() == notation);
+    Ok(())
+}
+
 type Reader<'a> = Deserializer<BufferedRead<Pieces<'a>>>;
 
 fn reader<'a>(alloc: Global, bytes: &'a [u8], piece: usize) -> Result<Reader<'a>, ReadError> {
@@ -39,11 +69,14 @@ fn reader<'a>(alloc: Global, bytes: &'a [u8], piece: usize) -> Result<Reader<'a>
     Ok(Deserializer::new(alloc, source))
 }
 
+fn next(de: &mut Reader<'_>) -> Answer<Value> {
+    Value::deserialize(de)
+}
+
 fn is_read(rt: &impl Abort, alloc: Global, bytes: &[u8], piece: usize, want: &str) -> Done {
     let mut de = reader(alloc, bytes, piece)?;
-    let value = Value::deserialize(&mut de)?;
+    is_noted(rt, alloc, &next(&mut de)?, want)?;
     de.end()?;
-    assert!(rt; to_diagnostic(alloc, &value)?.as_str() == want);
     Ok(())
 }
 
@@ -60,11 +93,10 @@ fn reads_the_examples_of_the_standard(rt: HostRuntime) -> Done {
 fn streams(rt: &impl Abort, alloc: Global, piece: usize) -> Done {
     let source = BufferedRead::new(alloc, Pieces::new(b"\x01\x18\x2a\x19\x03\xe8", piece))?;
     let mut stream = StreamDeserializer::<_, u16>::new(alloc, source);
-    assert!(rt; stream.next().ok_or("none")?? == 1);
-    assert!(rt; stream.byte_offset() == 1);
-    assert!(rt; stream.next().ok_or("none")?? == 42);
-    assert!(rt; stream.next().ok_or("none")?? == 1000);
-    assert!(rt; stream.byte_offset() == 6);
+    for (want, offset) in [(1, 1), (42, 3), (1000, 6)] {
+        assert!(rt; stream.next().ok_or("none")?? == want);
+        assert!(rt; stream.byte_offset() == offset);
+    }
     assert!(rt; stream.next().is_none());
     Ok(())
 }
@@ -77,19 +109,14 @@ fn reads_a_sequence(rt: HostRuntime) -> Done {
     Ok(())
 }
 
-fn ends_early(alloc: Global, bytes: &[u8], piece: usize, words: &str) -> Done {
-    let mut de = reader(alloc, bytes, piece)?;
-    is_refused(Value::deserialize(&mut de), words)
-}
-
 // Within a head, within a string, and where the last element of an array is wanted.
 #[test]
 fn refuses_what_ends_too_early(rt: HostRuntime) -> Done {
     for piece in PIECES {
-        let words = "EOF while parsing a value at offset 2";
-        ends_early(rt.alloc(), b"\x19\x03", piece, words)?;
-        ends_early(rt.alloc(), b"\x64I", piece, words)?;
-        ends_early(rt.alloc(), b"\x82\x01", piece, words)?;
+        for bytes in [b"\x19\x03", b"\x64I", b"\x82\x01"] {
+            let mut de = reader(rt.alloc(), bytes, piece)?;
+            is_refused(next(&mut de), "EOF while parsing a value at offset 2")?;
+        }
     }
     Ok(())
 }
@@ -102,7 +129,7 @@ fn reads_a_text_that_is_longer_than_a_block(rt: HostRuntime) -> Done {
     bytes.resize(9004, b'x')?;
     for piece in [1000, 10_000] {
         let mut de = reader(alloc, &bytes, piece)?;
-        assert!(&rt; u8::deserialize(&mut de)? == 1);
+        is_noted(&rt, alloc, &next(&mut de)?, "1")?;
         let text = String::deserialize(&mut de)?;
         assert!(&rt; text.len() == 9000 && text.bytes().all(|b| b == b'x'));
         de.end()?;

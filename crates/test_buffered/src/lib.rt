@@ -15,6 +15,8 @@ mod items;
 #[cfg(test)]
 mod peer;
 #[cfg(test)]
+mod script;
+#[cfg(test)]
 mod sink;
 #[cfg(test)]
 mod whole;

@@ -1,19 +1,17 @@
 //! The sink that holds what is written: what its writer is given, and when.
 
 use crate::devices::Taker;
+use crate::items::{WRITTEN, example};
 use cbor_io::error::{ErrorCode, Result as Answer};
 use cbor_io::write::Write;
 use cbor_ser::{Serialize, Serializer};
+use cbor_value::Value;
 use cbor_writer::BufferedWrite;
 use std::alloc::{AllocError, Global};
-use std::io;
 use std::io::ErrorKind;
 use std::process::Abort;
 use std::test::Fail;
 use test_checks::Done;
-
-// How many bytes a writer takes a call.
-const PIECES: [usize; 3] = [1, 4099, 20_000];
 
 /// A sink before a writer that takes so many bytes a call.
 fn in_pieces(alloc: Global, piece: usize) -> Answer<BufferedWrite<Taker>> {
@@ -32,39 +30,33 @@ pub fn is_fault(rt: &impl Abort, answer: Answer<()>, kind: ErrorKind) -> Done {
     Ok(())
 }
 
-/// The writer has these bytes, and those are held.
-fn leaves(rt: &impl Abort, sink: BufferedWrite<Taker>, taken: &[u8], held: &[u8]) -> Done {
+// ---- what serializers write
+
+/// The writer, once all that was written is sent.
+fn sends(rt: &impl Abort, sink: BufferedWrite<Taker>) -> Result<Taker, Fail> {
+    let mut sink = sink;
+    sink.flush()?;
     let (writer, unsent) = sink.into_inner();
-    assert!(rt; writer.taken.as_slice() == taken);
-    assert!(rt; unsent.as_slice() == held);
+    assert!(rt; unsent.is_empty() && writer.flushes == 1);
+    Ok(writer)
+}
+
+fn is_written(rt: &impl Abort, alloc: Global, piece: usize, value: &Value, want: &[u8]) -> Done {
+    let mut ser = Serializer::new(alloc, in_pieces(alloc, piece)?);
+    value.serialize(&mut ser)?;
+    let writer = sends(rt, ser.into_inner())?;
+    assert!(rt; writer.taken.as_slice() == want);
     Ok(())
 }
 
-fn is_written<T: Serialize>(
-    rt: &impl Abort,
-    alloc: Global,
-    piece: usize,
-    value: &T,
-    want: &[u8],
-) -> Done {
-    let mut ser = Serializer::new(alloc, in_pieces(alloc, piece)?);
-    value.serialize(&mut ser)?;
-    let mut sink = ser.into_inner();
-    sink.flush()?;
-    leaves(rt, sink, want, b"")
-}
-
-// Examples of RFC 8949, Appendix A.
 #[test]
 fn writes_the_examples_of_the_standard(rt: HostRuntime) -> Done {
     let alloc = rt.alloc();
-    for piece in PIECES {
-        is_written(&rt, alloc, piece, &1000u16, b"\x19\x03\xe8")?;
-        is_written(&rt, alloc, piece, &-1000i16, b"\x39\x03\xe7")?;
-        let float = b"\xfb\x3f\xf1\x99\x99\x99\x99\x99\x9a";
-        is_written(&rt, alloc, piece, &1.1f64, float)?;
-        is_written(&rt, alloc, piece, &"IETF", b"\x64IETF")?;
-        is_written(&rt, alloc, piece, &(1u8, true), b"\x82\x01\xf5")?;
+    for (bytes, notation) in &WRITTEN {
+        let value = example(&rt, alloc, bytes, notation)?;
+        for piece in [1, 4099, 20_000] {
+            is_written(&rt, alloc, piece, &value, bytes)?;
+        }
     }
     Ok(())
 }
@@ -90,93 +82,134 @@ pub fn are_numbers(rt: &impl Abort, bytes: &[u8]) -> Done {
     Ok(())
 }
 
+// How many calls of the writer the list takes.
 fn writes_numbers(rt: &impl Abort, alloc: Global, piece: usize) -> Result<usize, Fail> {
     let mut ser = Serializer::new(alloc, in_pieces(alloc, piece)?);
     numbers(alloc)?.serialize(&mut ser)?;
-    let mut sink = ser.into_inner();
-    sink.flush()?;
-    let (writer, unsent) = sink.into_inner();
-    assert!(rt; unsent.is_empty() && writer.flushes == 1);
+    let writer = sends(rt, ser.into_inner())?;
     are_numbers(rt, &writer.taken)?;
     Ok(writer.calls)
 }
 
-// 2,730 pieces of three bytes fit in the block.
+// 2,730 pieces of three bytes fit in the block: 8,190 bytes are sent, and then 813.
 #[test]
 fn writes_a_list_that_is_longer_than_a_block(rt: HostRuntime) -> Done {
-    for piece in PIECES {
-        writes_numbers(&rt, rt.alloc(), piece)?;
+    for (piece, calls) in [(1, 9003), (4099, 3), (20_000, 2)] {
+        assert!(&rt; writes_numbers(&rt, rt.alloc(), piece)? == calls);
     }
-    assert!(&rt; writes_numbers(&rt, rt.alloc(), 1)? == 9003);
-    assert!(&rt; writes_numbers(&rt, rt.alloc(), 20_000)? == 2);
     Ok(())
 }
 
-fn is_long(rt: &impl Abort, bytes: &[u8]) -> Done {
-    assert!(rt; bytes.len() == 9006);
-    assert!(rt; bytes.get(..5) == Some(b"\x82\x01\x79\x23\x28".as_slice()));
-    assert!(rt; bytes.iter().skip(5).take(9000).all(|b| *b == b'x'));
-    assert!(rt; bytes.last() == Some(&0xf6));
+// ---- scripts
+
+/// A call of the sink, which is done or reports a fault of the writer of this kind.
+#[derive(Clone, Copy)]
+enum Step<'a> {
+    Write(&'a [u8]),
+    Flush,
+    WriteFails(&'a [u8], ErrorKind),
+    FlushFails(ErrorKind),
+}
+
+fn plays(rt: &impl Abort, sink: &mut BufferedWrite<Taker>, script: &[Step]) -> Done {
+    for step in script {
+        match *step {
+            Step::Write(bytes) => sink.write_all(bytes)?,
+            Step::Flush => sink.flush()?,
+            Step::WriteFails(bytes, kind) => is_fault(rt, sink.write_all(bytes), kind)?,
+            Step::FlushFails(kind) => is_fault(rt, sink.flush(), kind)?,
+        }
+    }
     Ok(())
 }
 
-// A text of 9,000 bytes, which goes straight to the writer, behind what is held.
-fn writes_long(rt: &impl Abort, alloc: Global, piece: usize) -> Result<usize, Fail> {
-    let text = vec![in alloc; b'x'; 9000]?;
-    let mut sink = in_pieces(alloc, piece)?;
-    sink.write_all(b"\x82")?;
-    sink.write_all(b"\x01\x79\x23\x28")?;
-    sink.write_all(&text)?;
-    sink.write_all(b"")?;
-    sink.write_all(b"\xf6")?;
-    sink.flush()?;
+/// After a script the writer, which is returned, has these bytes, and those are held.
+fn leaves(
+    rt: &impl Abort,
+    alloc: Global,
+    writer: Taker,
+    script: &[Step],
+    (taken, held): (&[u8], &[u8]),
+) -> Result<Taker, Fail> {
+    let mut sink = BufferedWrite::new(alloc, writer)?;
+    plays(rt, &mut sink, script)?;
     let (writer, unsent) = sink.into_inner();
-    assert!(rt; unsent.is_empty());
-    is_long(rt, &writer.taken)?;
-    Ok(writer.calls)
+    assert!(rt; writer.taken.as_slice() == taken);
+    assert!(rt; unsent.as_slice() == held);
+    Ok(writer)
 }
 
+/// Heads, 9,000 times `x`, and a byte.
+fn long(alloc: Global) -> Result<Vec<u8>, AllocError> {
+    let mut bytes = Vec::from_slice(alloc, b"\x82\x01\x79\x23\x28")?;
+    bytes.resize(9005, b'x')?;
+    bytes.push(0xf6)?;
+    Ok(bytes)
+}
+
+// The text goes straight to the writer, behind what is held.
 #[test]
 fn writes_a_piece_that_is_longer_than_a_block(rt: HostRuntime) -> Done {
-    for piece in PIECES {
-        writes_long(&rt, rt.alloc(), piece)?;
+    let alloc = rt.alloc();
+    let text = vec![in alloc; b'x'; 9000]?;
+    let script = [
+        Step::Write(b"\x82"),
+        Step::Write(b"\x01\x79\x23\x28"),
+        Step::Write(&text),
+        Step::Write(b""),
+        Step::Write(b"\xf6"),
+        Step::Flush,
+    ];
+    let want = long(alloc)?;
+    for (piece, calls) in [(1, 9006), (4099, 5), (20_000, 3)] {
+        let writer = Taker::new(alloc, piece)?;
+        let writer = leaves(&rt, alloc, writer, &script, (&want, b""))?;
+        assert!(&rt; writer.calls == calls);
     }
-    assert!(&rt; writes_long(&rt, rt.alloc(), 20_000)? == 3);
     Ok(())
 }
 
 #[test]
 fn holds_what_is_written_until_it_is_flushed(rt: HostRuntime) -> Done {
-    let mut sink = in_pieces(rt.alloc(), 10)?;
-    sink.write_all(b"ab")?;
-    sink.write_all(b"c")?;
-    leaves(&rt, sink, b"", b"abc")?;
-
-    let mut sink = in_pieces(rt.alloc(), 10)?;
-    sink.write_all(b"abc")?;
-    sink.flush()?;
-    sink.write_all(b"d")?;
-    leaves(&rt, sink, b"abc", b"d")
+    let alloc = rt.alloc();
+    let unflushed = [Step::Write(b"ab"), Step::Write(b"c")];
+    leaves(
+        &rt,
+        alloc,
+        Taker::new(alloc, 10)?,
+        &unflushed,
+        (b"", b"abc"),
+    )?;
+    let flushed = [Step::Write(b"abc"), Step::Flush, Step::Write(b"d")];
+    leaves(&rt, alloc, Taker::new(alloc, 10)?, &flushed, (b"abc", b"d"))?;
+    Ok(())
 }
 
-// Two bytes are taken by each call.
-fn failing(alloc: Global, fails_at: usize, kind: ErrorKind) -> Answer<BufferedWrite<Taker>> {
-    BufferedWrite::new(alloc, Taker::failing(alloc, 2, fails_at, kind)?)
+/// The same of a writer that takes two bytes a call, and fails at its call of this number.
+fn leaves_at_fault(
+    rt: &impl Abort,
+    alloc: Global,
+    (fails_at, kind): (usize, ErrorKind),
+    script: &[Step],
+    left: (&[u8], &[u8]),
+) -> Result<Taker, Fail> {
+    let writer = Taker::failing(alloc, 2, fails_at, kind)?;
+    leaves(rt, alloc, writer, script, left)
 }
 
 #[test]
 fn keeps_what_a_fault_leaves_unsent(rt: HostRuntime) -> Done {
-    let mut sink = failing(rt.alloc(), 2, ErrorKind::BrokenPipe)?;
-    sink.write_all(b"abcdef")?;
-    is_fault(&rt, sink.flush(), ErrorKind::BrokenPipe)?;
-    leaves(&rt, sink, b"ab", b"cdef")?;
-
-    let mut sink = failing(rt.alloc(), 2, ErrorKind::BrokenPipe)?;
-    sink.write_all(b"abcdef")?;
-    is_fault(&rt, sink.flush(), ErrorKind::BrokenPipe)?;
-    sink.write_all(b"g")?;
-    sink.flush()?;
-    leaves(&rt, sink, b"abcdefg", b"")
+    let kind = ErrorKind::BrokenPipe;
+    let script = [
+        Step::Write(b"abcdef"),
+        Step::FlushFails(kind),
+        Step::Write(b"g"),
+        Step::Flush,
+    ];
+    let fault = (2, kind);
+    leaves_at_fault(&rt, rt.alloc(), fault, &script[..2], (b"ab", b"cdef"))?;
+    leaves_at_fault(&rt, rt.alloc(), fault, &script, (b"abcdefg", b""))?;
+    Ok(())
 }
 
 // The fault comes while the block is sent, of which two bytes were, and so none of the piece is
@@ -184,81 +217,49 @@ fn keeps_what_a_fault_leaves_unsent(rt: HostRuntime) -> Done {
 #[test]
 fn reports_a_fault_at_a_piece_of_a_block(rt: HostRuntime) -> Done {
     let alloc = rt.alloc();
+    let kind = ErrorKind::StorageFull;
     let piece = vec![in alloc; b'x'; 8192]?;
-    let mut sink = failing(alloc, 2, ErrorKind::StorageFull)?;
-    sink.write_all(b"abc")?;
-    is_fault(&rt, sink.write_all(&piece), ErrorKind::StorageFull)?;
-    leaves(&rt, sink, b"ab", b"c")?;
-
-    let mut sink = failing(alloc, 5, ErrorKind::StorageFull)?;
-    sink.write_all(b"abc")?;
-    is_fault(&rt, sink.write_all(&piece), ErrorKind::StorageFull)?;
-    sink.write_all(b"d")?;
-    sink.flush()?;
-    leaves(&rt, sink, b"abcxxxxd", b"")
+    let script = [
+        Step::Write(b"abc"),
+        Step::WriteFails(&piece, kind),
+        Step::Write(b"d"),
+        Step::Flush,
+    ];
+    leaves_at_fault(&rt, alloc, (2, kind), &script[..2], (b"ab", b"c"))?;
+    leaves_at_fault(&rt, alloc, (5, kind), &script, (b"abcxxxxd", b""))?;
+    Ok(())
 }
 
 #[test]
 fn tries_an_interrupted_write_again(rt: HostRuntime) -> Done {
-    let mut sink = failing(rt.alloc(), 2, ErrorKind::Interrupted)?;
-    sink.write_all(b"abcde")?;
-    sink.flush()?;
-    let (writer, unsent) = sink.into_inner();
-    assert!(&rt; writer.taken.as_slice() == b"abcde".as_slice());
-    assert!(&rt; writer.calls == 4 && unsent.is_empty());
+    let script = [Step::Write(b"abcde"), Step::Flush];
+    let fault = (2, ErrorKind::Interrupted);
+    let writer = leaves_at_fault(&rt, rt.alloc(), fault, &script, (b"abcde", b""))?;
+    assert!(&rt; writer.calls == 4);
     Ok(())
-}
-
-/// A writer that is interrupted so many times before it takes a byte.
-#[derive(Drop)]
-struct Interrupted {
-    taken: Vec<u8>,
-    times: usize,
-    left: usize,
-}
-
-impl io::Write for Interrupted {
-    fn write(&mut self, buf: &[u8]) -> io::Result<usize> {
-        if self.left > 0 {
-            self.left -= 1;
-            return Err(io::Error::from(ErrorKind::Interrupted));
-        }
-        self.left = self.times;
-        let count = buf.len().min(1);
-        io::Write::write(&mut self.taken, &buf[..count])
-    }
-
-    fn flush(&mut self) -> io::Result<()> {
-        Ok(())
-    }
 }
 
 #[test]
 fn tries_an_interrupted_write_again_however_often(rt: HostRuntime) -> Done {
     let alloc = rt.alloc();
+    let script = [Step::Write(b"abcde"), Step::Flush];
     for times in [2, 1000, 100_000] {
-        let writer = Interrupted {
-            taken: Vec::with_capacity(alloc, 16)?,
-            times,
-            left: times,
-        };
-        let mut sink = BufferedWrite::new(alloc, writer)?;
-        sink.write_all(b"abcde")?;
-        sink.flush()?;
-        let (writer, unsent) = sink.into_inner();
-        assert!(&rt; writer.taken.as_slice() == b"abcde".as_slice());
-        assert!(&rt; unsent.is_empty());
+        let writer = Taker::interrupted(alloc, times)?;
+        leaves(&rt, alloc, writer, &script, (b"abcde", b""))?;
     }
     Ok(())
 }
 
 #[test]
 fn reports_a_writer_that_takes_nothing(rt: HostRuntime) -> Done {
-    let mut sink = in_pieces(rt.alloc(), 0)?;
-    sink.flush()?;
-    sink.write_all(b"a")?;
-    is_fault(&rt, sink.flush(), ErrorKind::WriteZero)?;
-    leaves(&rt, sink, b"", b"a")
+    let alloc = rt.alloc();
+    let script = [
+        Step::Flush,
+        Step::Write(b"a"),
+        Step::FlushFails(ErrorKind::WriteZero),
+    ];
+    leaves(&rt, alloc, Taker::new(alloc, 0)?, &script, (b"", b"a"))?;
+    Ok(())
 }
 
 #[test]

@@ -2,9 +2,9 @@
 //! leaves.
 
 use crate::devices::Taker;
+use crate::items::{WRITTEN, example};
 use crate::sink::{are_numbers, is_fault, numbers};
 use cbor_io::error::Result as Answer;
-use cbor_ser::Serialize;
 use cbor_value::Value;
 use cbor_writer::to_io_writer;
 use std::alloc::{AllocError, Global};
@@ -13,17 +13,8 @@ use std::process::Abort;
 use std::test::Fail;
 use test_checks::{Done, is_refused};
 
-// How many bytes a writer takes a call.
-const PIECES: [usize; 3] = [1, 700, 20_000];
-
 /// The writer takes so many bytes a call, and is given these.
-fn is_given<T: Serialize>(
-    rt: &impl Abort,
-    alloc: Global,
-    piece: usize,
-    value: &T,
-    want: &[u8],
-) -> Done {
+fn is_given(rt: &impl Abort, alloc: Global, piece: usize, value: &Value, want: &[u8]) -> Done {
     let mut writer = Taker::new(alloc, piece)?;
     to_io_writer(alloc, &mut writer, value)?;
     assert!(rt; writer.taken.as_slice() == want);
@@ -31,18 +22,14 @@ fn is_given<T: Serialize>(
     Ok(())
 }
 
-// Examples of RFC 8949, Appendix A.
 #[test]
 fn gives_the_examples_of_the_standard(rt: HostRuntime) -> Done {
     let alloc = rt.alloc();
-    for piece in PIECES {
-        is_given(&rt, alloc, piece, &1000u16, b"\x19\x03\xe8")?;
-        is_given(&rt, alloc, piece, &-1000i16, b"\x39\x03\xe7")?;
-        let float = b"\xfb\x3f\xf1\x99\x99\x99\x99\x99\x9a";
-        is_given(&rt, alloc, piece, &1.1f64, float)?;
-        is_given(&rt, alloc, piece, &"IETF", b"\x64IETF")?;
-        is_given(&rt, alloc, piece, &"", b"\x60")?;
-        is_given(&rt, alloc, piece, &(1u8, true), b"\x82\x01\xf5")?;
+    for (bytes, notation) in &WRITTEN {
+        let value = example(&rt, alloc, bytes, notation)?;
+        for piece in [1, 700, 20_000] {
+            is_given(&rt, alloc, piece, &value, bytes)?;
+        }
     }
     Ok(())
 }
@@ -57,9 +44,14 @@ fn goes_on_behind_what_the_writer_has(rt: HostRuntime) -> Done {
     Ok(())
 }
 
+fn gives_list(alloc: Global, writer: &mut Taker, list: &Vec<u16>) -> Answer<()> {
+    to_io_writer(alloc, writer, list)
+}
+
+/// How many calls of a writer that takes so many bytes a call the list takes.
 fn gives_numbers(rt: &impl Abort, alloc: Global, piece: usize) -> Result<usize, Fail> {
     let mut writer = Taker::new(alloc, piece)?;
-    to_io_writer(alloc, &mut writer, &numbers(alloc)?)?;
+    gives_list(alloc, &mut writer, &numbers(alloc)?)?;
     are_numbers(rt, &writer.taken)?;
     Ok(writer.calls)
 }
@@ -67,11 +59,9 @@ fn gives_numbers(rt: &impl Abort, alloc: Global, piece: usize) -> Result<usize, 
 // 341 pieces of three bytes fit in a block: of 9,003 bytes there are eight such blocks, and a rest.
 #[test]
 fn gives_a_list_by_blocks(rt: HostRuntime) -> Done {
-    for piece in PIECES {
-        gives_numbers(&rt, rt.alloc(), piece)?;
+    for (piece, calls) in [(1, 9003), (700, 18), (20_000, 9)] {
+        assert!(&rt; gives_numbers(&rt, rt.alloc(), piece)? == calls);
     }
-    assert!(&rt; gives_numbers(&rt, rt.alloc(), 1)? == 9003);
-    assert!(&rt; gives_numbers(&rt, rt.alloc(), 20_000)? == 9);
     Ok(())
 }
 
@@ -106,50 +96,47 @@ fn gives_between(rt: &impl Abort, alloc: Global, piece: usize, len: u16) -> Resu
 // and what is as long as a block by itself.
 #[test]
 fn gives_texts_of_any_length(rt: HostRuntime) -> Done {
-    for piece in PIECES {
+    for piece in [1, 700, 20_000] {
         for len in [256, 1018, 1019, 1020, 1023, 1024, 1025, 2048, 9000] {
             gives_between(&rt, rt.alloc(), piece, len)?;
         }
     }
-    assert!(&rt; gives_between(&rt, rt.alloc(), 20_000, 1018)? == 1);
-    assert!(&rt; gives_between(&rt, rt.alloc(), 20_000, 1019)? == 2);
-    assert!(&rt; gives_between(&rt, rt.alloc(), 20_000, 1020)? == 2);
-    assert!(&rt; gives_between(&rt, rt.alloc(), 20_000, 9000)? == 3);
+    for (len, calls) in [(1018, 1), (1019, 2), (1020, 2), (9000, 3)] {
+        assert!(&rt; gives_between(&rt, rt.alloc(), 20_000, len)? == calls);
+    }
     Ok(())
 }
 
-/// It is refused for a fault at the writer's call of this number, which is its last.
-fn fails_at<T: Serialize>(
-    rt: &impl Abort,
-    alloc: Global,
-    value: &T,
-    call: usize,
-    taken: &[u8],
-) -> Done {
-    let mut writer = Taker::failing(alloc, 2, call, ErrorKind::StorageFull)?;
-    let answer = to_io_writer(alloc, &mut writer, value);
-    is_fault(rt, answer, ErrorKind::StorageFull)?;
-    assert!(rt; writer.calls == call);
-    assert!(rt; writer.taken.as_slice() == taken);
-    Ok(())
+fn gives_foobar(alloc: Global, writer: &mut Taker) -> Answer<()> {
+    to_io_writer(alloc, writer, &"foobar")
 }
 
+// The writer takes two bytes a call, and is asked for nothing after the call that fails.
 #[test]
 fn leaves_a_prefix_at_a_fault(rt: HostRuntime) -> Done {
-    let alloc = rt.alloc();
-    fails_at(&rt, alloc, &"foobar", 1, b"")?;
-    fails_at(&rt, alloc, &"foobar", 2, b"\x66f")?;
-    fails_at(&rt, alloc, &"foobar", 3, b"\x66foo")?;
-    fails_at(&rt, alloc, &"foobar", 4, b"\x66fooba")
+    let kind = ErrorKind::StorageFull;
+    for (call, taken) in [
+        (1, &b""[..]),
+        (2, b"\x66f"),
+        (3, b"\x66foo"),
+        (4, b"\x66fooba"),
+    ] {
+        let mut writer = Taker::failing(rt.alloc(), 2, call, kind)?;
+        is_fault(&rt, gives_foobar(rt.alloc(), &mut writer), kind)?;
+        assert!(&rt; writer.calls == call);
+        assert!(&rt; writer.taken.as_slice() == taken);
+    }
+    Ok(())
 }
 
 /// Of the list's bytes so many are given before the fault, and none after it.
 fn list_fails_at(rt: &impl Abort, alloc: Global, call: usize, count: usize) -> Done {
+    let list = numbers(alloc)?;
     let mut whole = Taker::new(alloc, 20_000)?;
-    to_io_writer(alloc, &mut whole, &numbers(alloc)?)?;
+    gives_list(alloc, &mut whole, &list)?;
     are_numbers(rt, &whole.taken)?;
     let mut writer = Taker::failing(alloc, 700, call, ErrorKind::BrokenPipe)?;
-    let answer = to_io_writer(alloc, &mut writer, &numbers(alloc)?);
+    let answer = gives_list(alloc, &mut writer, &list);
     is_fault(rt, answer, ErrorKind::BrokenPipe)?;
     assert!(rt; writer.calls == call);
     assert!(rt; Some(writer.taken.as_slice()) == whole.taken.get(..count));
@@ -159,21 +146,24 @@ fn list_fails_at(rt: &impl Abort, alloc: Global, call: usize, count: usize) -> D
 // A block of 1,023 bytes goes by two calls, of 700 bytes and 323; the last, of 819, too.
 #[test]
 fn sends_nothing_after_a_fault(rt: HostRuntime) -> Done {
-    let alloc = rt.alloc();
-    list_fails_at(&rt, alloc, 1, 0)?;
-    list_fails_at(&rt, alloc, 2, 700)?;
-    list_fails_at(&rt, alloc, 3, 1023)?;
-    list_fails_at(&rt, alloc, 16, 7 * 1023 + 700)?;
-    list_fails_at(&rt, alloc, 17, 8 * 1023)?;
-    list_fails_at(&rt, alloc, 18, 8 * 1023 + 700)
+    for (call, count) in [
+        (1, 0),
+        (2, 700),
+        (3, 1023),
+        (16, 7 * 1023 + 700),
+        (17, 8 * 1023),
+        (18, 8 * 1023 + 700),
+    ] {
+        list_fails_at(&rt, rt.alloc(), call, count)?;
+    }
+    Ok(())
 }
 
 #[test]
 fn tries_again_after_an_interruption(rt: HostRuntime) -> Done {
-    let alloc = rt.alloc();
     for call in 1..=4 {
-        let mut writer = Taker::failing(alloc, 2, call, ErrorKind::Interrupted)?;
-        to_io_writer(alloc, &mut writer, &"foobar")?;
+        let mut writer = Taker::failing(rt.alloc(), 2, call, ErrorKind::Interrupted)?;
+        gives_foobar(rt.alloc(), &mut writer)?;
         assert!(&rt; writer.taken.as_slice() == b"\x66foobar".as_slice());
         assert!(&rt; writer.calls == 5);
     }
@@ -182,9 +172,8 @@ fn tries_again_after_an_interruption(rt: HostRuntime) -> Done {
 
 #[test]
 fn reports_a_writer_of_nothing(rt: HostRuntime) -> Done {
-    let alloc = rt.alloc();
-    let mut writer = Taker::new(alloc, 0)?;
-    let answer = to_io_writer(alloc, &mut writer, &true);
+    let mut writer = Taker::new(rt.alloc(), 0)?;
+    let answer = gives_foobar(rt.alloc(), &mut writer);
     is_fault(&rt, answer, ErrorKind::WriteZero)
 }
 
@@ -215,9 +204,13 @@ fn stops_before(rt: &impl Abort, alloc: Global, nulls: usize, head: &[u8], count
 // What the block holds at the refusal isn't sent.
 #[test]
 fn gives_whole_blocks_before_a_number_that_is_too_far_out(rt: HostRuntime) -> Done {
-    let alloc = rt.alloc();
-    stops_before(&rt, alloc, 0, b"\x81", 0)?;
-    stops_before(&rt, alloc, 1000, b"\x99\x03\xe9", 0)?;
-    stops_before(&rt, alloc, 2000, b"\x99\x07\xd1", 1024)?;
-    stops_before(&rt, alloc, 2100, b"\x99\x08\x35", 2048)
+    for (nulls, head, count) in [
+        (0, &b"\x81"[..], 0),
+        (1000, b"\x99\x03\xe9", 0),
+        (2000, b"\x99\x07\xd1", 1024),
+        (2100, b"\x99\x08\x35", 2048),
+    ] {
+        stops_before(&rt, rt.alloc(), nulls, head, count)?;
+    }
+    Ok(())
 }
