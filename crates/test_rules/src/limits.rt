@@ -1,6 +1,7 @@
 //! Limits: of an array's items, a map's pairs and a string's bytes.
 
-use crate::checks::{departs, keeps};
+use crate::checks::Verdict::{Departs, Keeps};
+use crate::checks::{Row, all_depart, all_keep, all_pass, judges};
 use cbor_rules::{Rule, Rules};
 use test_checks::Done;
 
@@ -110,100 +111,78 @@ const SHORT_STRINGS: &[&[u8]] = &[
 
 #[test]
 fn refuses_long_arrays(rt: HostRuntime) -> Done {
-    for (bytes, offset) in LONG_ARRAYS {
-        departs(&rt, rt.alloc(), TWO_ITEMS, bytes, Rule::MostItems, *offset)?;
-        keeps(rt.alloc(), Rules::ANY, bytes)?;
-    }
-    for bytes in SHORT_ARRAYS {
-        keeps(rt.alloc(), TWO_ITEMS, bytes)?;
-    }
-    Ok(())
+    let alloc = rt.alloc();
+    all_depart(&rt, alloc, TWO_ITEMS, Rule::MostItems, LONG_ARRAYS)?;
+    all_pass(alloc, Rules::ANY, LONG_ARRAYS)?;
+    all_keep(alloc, TWO_ITEMS, SHORT_ARRAYS)
 }
 
 #[test]
 fn refuses_long_maps(rt: HostRuntime) -> Done {
-    for (bytes, offset) in LONG_MAPS {
-        departs(&rt, rt.alloc(), ONE_PAIR, bytes, Rule::MostPairs, *offset)?;
-        keeps(rt.alloc(), Rules::ANY, bytes)?;
-    }
-    for bytes in SHORT_MAPS {
-        keeps(rt.alloc(), ONE_PAIR, bytes)?;
-    }
-    Ok(())
+    let alloc = rt.alloc();
+    all_depart(&rt, alloc, ONE_PAIR, Rule::MostPairs, LONG_MAPS)?;
+    all_pass(alloc, Rules::ANY, LONG_MAPS)?;
+    all_keep(alloc, ONE_PAIR, SHORT_MAPS)
 }
 
 #[test]
 fn refuses_long_strings(rt: HostRuntime) -> Done {
-    for (bytes, offset) in LONG_STRINGS {
-        departs(
-            &rt,
-            rt.alloc(),
-            THREE_BYTES,
-            bytes,
-            Rule::MostBytes,
-            *offset,
-        )?;
-        keeps(rt.alloc(), Rules::ANY, bytes)?;
-    }
-    for bytes in SHORT_STRINGS {
-        keeps(rt.alloc(), THREE_BYTES, bytes)?;
-    }
-    Ok(())
+    let alloc = rt.alloc();
+    all_depart(&rt, alloc, THREE_BYTES, Rule::MostBytes, LONG_STRINGS)?;
+    all_pass(alloc, Rules::ANY, LONG_STRINGS)?;
+    all_keep(alloc, THREE_BYTES, SHORT_STRINGS)
 }
 
 // The limit of each kind may be none at all, which the empty ones keep.
+const NONE_OR_ONE: &[Row] = &[
+    (NONE_AT_ALL, b"\x80", Keeps),
+    (NONE_AT_ALL, b"\x9f\xff", Keeps),
+    (NONE_AT_ALL, b"\xa0", Keeps),
+    (NONE_AT_ALL, b"\xbf\xff", Keeps),
+    (NONE_AT_ALL, b"\x40", Keeps),
+    (NONE_AT_ALL, b"\x5f\xff", Keeps),
+    (NONE_AT_ALL, b"\x7f\x60\xff", Keeps),
+    (NONE_AT_ALL, b"\xc1\x18\x64", Keeps),
+    (NONE_AT_ALL, b"\x81\0", Departs(Rule::MostItems, 1)),
+    (NONE_AT_ALL, b"\x9f\0\xff", Departs(Rule::MostItems, 2)),
+    (NONE_AT_ALL, b"\xa1\0\0", Departs(Rule::MostPairs, 1)),
+    (NONE_AT_ALL, b"\xbf\0\0\xff", Departs(Rule::MostPairs, 2)),
+    (NONE_AT_ALL, b"\x61a", Departs(Rule::MostBytes, 1)),
+    (NONE_AT_ALL, b"\x5f\x41a\xff", Departs(Rule::MostBytes, 2)),
+];
+
 #[test]
 fn refuses_all_but_empty_ones(rt: HostRuntime) -> Done {
-    let empty: [&[u8]; 8] = [
-        b"\x80".as_slice(),
-        b"\x9f\xff".as_slice(),
-        b"\xa0".as_slice(),
-        b"\xbf\xff".as_slice(),
-        b"\x40".as_slice(),
-        b"\x5f\xff".as_slice(),
-        b"\x7f\x60\xff".as_slice(),
-        b"\xc1\x18\x64".as_slice(),
-    ];
-    for bytes in empty {
-        keeps(rt.alloc(), NONE_AT_ALL, bytes)?;
-    }
-    let rows: [(&[u8], Rule, u64); 6] = [
-        (b"\x81\0".as_slice(), Rule::MostItems, 1),
-        (b"\x9f\0\xff".as_slice(), Rule::MostItems, 2),
-        (b"\xa1\0\0".as_slice(), Rule::MostPairs, 1),
-        (b"\xbf\0\0\xff".as_slice(), Rule::MostPairs, 2),
-        (b"\x61a".as_slice(), Rule::MostBytes, 1),
-        (b"\x5f\x41a\xff".as_slice(), Rule::MostBytes, 2),
-    ];
-    for (bytes, rule, offset) in rows {
-        departs(&rt, rt.alloc(), NONE_AT_ALL, bytes, rule, offset)?;
-    }
-    Ok(())
+    judges(&rt, rt.alloc(), NONE_OR_ONE)
 }
 
+const CANONICAL: Rules = Rules {
+    most_items: Some(2),
+    most_pairs: Some(1),
+    ..Rules::CANONICAL
+};
+
+const UNIQUE: Rules = Rules {
+    most_pairs: Some(1),
+    ..Rules::UNIQUE_KEYS
+};
+
 // A limit is reported before another rule that is broken at the same place.
+const LIMIT_FIRST: &[Row] = &[
+    (
+        CANONICAL,
+        b"\x98\x03\x01\x02\x03",
+        Departs(Rule::MostItems, 2),
+    ),
+    (
+        CANONICAL,
+        b"\x9f\0\0\0\xff",
+        Departs(Rule::DefiniteLengths, 1),
+    ),
+    (UNIQUE, b"\xbf\x01\0\x01\0\xff", Departs(Rule::MostPairs, 4)),
+];
+
 #[test]
 fn reports_a_limit_first(rt: HostRuntime) -> Done {
-    let rules = Rules {
-        most_items: Some(2),
-        most_pairs: Some(1),
-        ..Rules::CANONICAL
-    };
-    let array = b"\x98\x03\x01\x02\x03".as_slice();
-    departs(&rt, rt.alloc(), rules, array, Rule::MostItems, 2)?;
-    let lengths = Rule::DefiniteLengths;
-    departs(
-        &rt,
-        rt.alloc(),
-        rules,
-        b"\x9f\0\0\0\xff".as_slice(),
-        lengths,
-        1,
-    )?;
-    let unique = Rules {
-        most_pairs: Some(1),
-        ..Rules::UNIQUE_KEYS
-    };
-    let twice = b"\xbf\x01\0\x01\0\xff".as_slice();
-    departs(&rt, rt.alloc(), unique, twice, Rule::MostPairs, 4)
+    judges(&rt, rt.alloc(), LIMIT_FIRST)
 }

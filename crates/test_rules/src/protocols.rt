@@ -1,6 +1,7 @@
 //! What public protocols print: whether CTAP2 would accept it, and whether a map has a key twice.
 
-use crate::checks::{departs, keeps};
+use crate::checks::Verdict::{Departs, Keeps};
+use crate::checks::{Row, all_depart, all_keep, all_pass, departs, judges, keeps};
 use crate::published::{
     ATTESTATION, CLAIMS, CREDENTIAL_KEY, ENCRYPTED, INFO, ISSUED, KEY_SET, MACED, MACED_ISSUED,
     MESSAGE, NESTED, SIGNING_KEY, SYMMETRIC_128, SYMMETRIC_256, TOKEN,
@@ -42,11 +43,9 @@ fn repeats(
 // CTAP2 and in that of lengths. Heads are the shortest: 58 20 has 32 bytes, and 19 04 b0 is 1200.
 #[test]
 fn reads_answers_of_authenticators(rt: HostRuntime) -> Done {
-    for bytes in [CREDENTIAL_KEY, INFO] {
-        keeps(rt.alloc(), Rules::CTAP2, bytes)?;
-        keeps(rt.alloc(), Rules::LENGTH_FIRST, bytes)?;
-    }
-    Ok(())
+    let answers = [CREDENTIAL_KEY, INFO];
+    all_keep(rt.alloc(), Rules::CTAP2, &answers)?;
+    all_keep(rt.alloc(), Rules::LENGTH_FIRST, &answers)
 }
 
 // `fmt`, `attStmt` and `authData` have three, seven and eight bytes; `alg`, `sig` and `x5c` have
@@ -60,26 +59,23 @@ fn reads_an_attestation(rt: HostRuntime) -> Done {
 
 // COSE leaves the order of labels open, and these RFCs print the negative ones first: so 1, of the
 // first type, follows -1 or -3, of the second; and -3, which is 22, follows -4, which is 23.
+const KEYS: &[(&[u8], u64)] = &[
+    // a4, 20, 50 and 16 bytes, 01: 1 + 1 + 17 + 1
+    (SYMMETRIC_128, 20),
+    // a4, 20, 58 20 and 32 bytes, 01: 1 + 1 + 34 + 1
+    (SYMMETRIC_256, 37),
+    // a7, 23, 58 20 and 32 bytes, 22: 1 + 1 + 34 + 1
+    (SIGNING_KEY, 37),
+    // 84 a5, 20 01, 21 and 34 bytes, 22 and 34 bytes, 01: 2 + 2 + 35 + 35 + 1
+    (KEY_SET, 75),
+];
+
 #[test]
 fn refuses_keys_of_cose_in_the_order_of_rfcs(rt: HostRuntime) -> Done {
-    let rows: [(&[u8], u64); 4] = [
-        // a4, 20, 50 and 16 bytes, 01: 1 + 1 + 17 + 1
-        (SYMMETRIC_128, 20),
-        // a4, 20, 58 20 and 32 bytes, 01: 1 + 1 + 34 + 1
-        (SYMMETRIC_256, 37),
-        // a7, 23, 58 20 and 32 bytes, 22: 1 + 1 + 34 + 1
-        (SIGNING_KEY, 37),
-        // 84 a5, 20 01, 21 and 34 bytes, 22 and 34 bytes, 01: 2 + 2 + 35 + 35 + 1
-        (KEY_SET, 75),
-    ];
-    for (bytes, offset) in rows {
-        let rule = Rule::AscendingKeys;
-        departs(&rt, rt.alloc(), Rules::CTAP2, bytes, rule, offset)?;
-        // the order is all that CTAP2 has against them
-        let unique = Rules::CTAP2.with_keys(KeyOrder::Unique);
-        keeps(rt.alloc(), unique, bytes)?;
-    }
-    Ok(())
+    all_depart(&rt, rt.alloc(), Rules::CTAP2, Rule::AscendingKeys, KEYS)?;
+    // the order is all that CTAP2 has against them
+    let unique = Rules::CTAP2.with_keys(KeyOrder::Unique);
+    all_pass(rt.alloc(), unique, KEYS)
 }
 
 // CTAP2 has no tags: d0, d1 and d2 are one each, in one byte. What they tag is an array of a
@@ -93,7 +89,7 @@ fn refuses_messages_with_their_tags(rt: HostRuntime) -> Done {
         keeps(rt.alloc(), Rules::CTAP2, behind_first(bytes))?;
     }
     keeps(rt.alloc(), Rules::CTAP2, CLAIMS)?;
-    keeps(rt.alloc(), Rules::CTAP2, b"\xa1\x01\x26".as_slice())
+    keeps(rt.alloc(), Rules::CTAP2, b"\xa1\x01\x26")
 }
 
 // 61 is d8 3d, and within it 17 is d1.
@@ -105,60 +101,61 @@ fn refuses_each_tag_of_a_token(rt: HostRuntime) -> Done {
     keeps(rt.alloc(), Rules::CTAP2, behind_first(within))
 }
 
+const TOKENS: &[&[u8]] = &[TOKEN, MACED, ENCRYPTED, NESTED, MACED_ISSUED];
+
 // The others have tags. The labels 4 and 5 ascend, and heads are the shortest: 58 50 has 80 bytes,
 // 58 58 has 88 and 58 b7 has 183. What byte strings hold, a float also, is not looked at.
 #[test]
 fn reads_tokens_with_their_tags(rt: HostRuntime) -> Done {
-    for bytes in [TOKEN, MACED, ENCRYPTED, NESTED, MACED_ISSUED] {
-        keeps(rt.alloc(), Rules::UNIQUE_KEYS, bytes)?;
-        keeps(rt.alloc(), Rules::CANONICAL, bytes)?;
-        keeps(rt.alloc(), Rules::LENGTH_FIRST, bytes)?;
-        keeps(rt.alloc(), Rules::DCBOR, bytes)?;
-    }
-    Ok(())
+    let alloc = rt.alloc();
+    all_keep(alloc, Rules::UNIQUE_KEYS, TOKENS)?;
+    all_keep(alloc, Rules::CANONICAL, TOKENS)?;
+    all_keep(alloc, Rules::LENGTH_FIRST, TOKENS)?;
+    all_keep(alloc, Rules::DCBOR, TOKENS)
 }
+
+const WHOLE: &[u8] = b"\xa1\x06\xfb\x41\xd5\x84\x36\x7c\0\0\0";
 
 // 1443944944.5 is 2887889889 halves, an odd number of 32 binary digits. A single has 24: so the
 // double is the shortest. Without its half it has 27 up to the last 1, and is no shorter, but an
 // integer.
+const TIMES: &[Row] = &[
+    (Rules::CTAP2, ISSUED, Keeps),
+    (Rules::LENGTH_FIRST, ISSUED, Keeps),
+    (Rules::DCBOR, ISSUED, Keeps),
+    (Rules::DETERMINISTIC, WHOLE, Keeps),
+    (Rules::DCBOR, WHOLE, Departs(Rule::ReducedNumbers, 11)),
+];
+
 #[test]
 fn reads_a_time_with_a_fraction(rt: HostRuntime) -> Done {
-    keeps(rt.alloc(), Rules::CTAP2, ISSUED)?;
-    keeps(rt.alloc(), Rules::LENGTH_FIRST, ISSUED)?;
-    keeps(rt.alloc(), Rules::DCBOR, ISSUED)?;
-    let whole = b"\xa1\x06\xfb\x41\xd5\x84\x36\x7c\0\0\0".as_slice();
-    keeps(rt.alloc(), Rules::DETERMINISTIC, whole)?;
-    let rule = Rule::ReducedNumbers;
-    departs(&rt, rt.alloc(), Rules::DCBOR, whole, rule, 11)?;
-    // the label 6 again
-    let again = b"\x06\x1a\x56\x10\xd9\xf0";
-    repeats(&rt, rt.alloc(), b"\xa2", ISSUED, again, 12)
+    judges(&rt, rt.alloc(), TIMES)
 }
 
 // RFC 9052, section 9, asks that no label stands twice in a map, and asks for no order.
 #[test]
 fn reads_keys_of_cose_in_any_order(rt: HostRuntime) -> Done {
-    let rows = [
-        SYMMETRIC_128,
-        SYMMETRIC_256,
-        SIGNING_KEY,
-        KEY_SET,
-        CREDENTIAL_KEY,
-    ];
-    for bytes in rows {
-        keeps(rt.alloc(), Rules::UNIQUE_KEYS, bytes)?;
-    }
-    Ok(())
+    all_pass(rt.alloc(), Rules::UNIQUE_KEYS, KEYS)?;
+    keeps(rt.alloc(), Rules::UNIQUE_KEYS, CREDENTIAL_KEY)
 }
 
-// The keys have 37, 132 and 77 bytes. Behind these comes the label that stands twice.
+// A map, the head of the same with one pair more, that pair, and the offset behind its key, which
+// the map has: the keys have 37, 132 and 77 bytes.
+const LABELS_TWICE: &[(&[u8], &[u8], &[u8], u64)] = &[
+    (SYMMETRIC_128, b"\xa5", b"\x03\x0a", 38),
+    // within an array, and with the label 3 in a longer head
+    (SYMMETRIC_128, b"\x81\xa5", b"\x03\x0a", 39),
+    (SYMMETRIC_128, b"\xa5", b"\x18\x03\x0a", 39),
+    (SIGNING_KEY, b"\xa8", b"\x03\x26", 133),
+    (CREDENTIAL_KEY, b"\xa6", b"\x20\x01", 78),
+    // the claim 6 as a whole number
+    (ISSUED, b"\xa2", b"\x06\x1a\x56\x10\xd9\xf0", 12),
+];
+
 #[test]
 fn refuses_a_label_twice(rt: HostRuntime) -> Done {
-    let alloc = rt.alloc();
-    repeats(&rt, alloc, b"\xa5", SYMMETRIC_128, b"\x03\x0a", 38)?;
-    // within an array, and with the label 3 in a longer head
-    repeats(&rt, alloc, b"\x81\xa5", SYMMETRIC_128, b"\x03\x0a", 39)?;
-    repeats(&rt, alloc, b"\xa5", SYMMETRIC_128, b"\x18\x03\x0a", 39)?;
-    repeats(&rt, alloc, b"\xa8", SIGNING_KEY, b"\x03\x26", 133)?;
-    repeats(&rt, alloc, b"\xa6", CREDENTIAL_KEY, b"\x20\x01", 78)
+    for (map, head, pair, offset) in LABELS_TWICE {
+        repeats(&rt, rt.alloc(), head, map, pair, *offset)?;
+    }
+    Ok(())
 }

@@ -1,6 +1,7 @@
 //! Keys that may stand in any order, each value once.
 
-use crate::checks::{departs, keeps};
+use crate::checks::Verdict::Departs;
+use crate::checks::{Row, all_depart, all_keep, all_pass, departs, judges, keeps};
 use cbor_rules::{Rule, Rules};
 use test_checks::Done;
 
@@ -52,34 +53,39 @@ const UNIQUE: &[&[u8]] = &[
 
 #[test]
 fn refuses_a_key_twice(rt: HostRuntime) -> Done {
-    for (bytes, offset) in DUPLICATES {
-        departs(&rt, rt.alloc(), Rules::UNIQUE_KEYS, bytes, TWICE, *offset)?;
-        // which is read otherwise
-        keeps(rt.alloc(), Rules::ANY, bytes)?;
-    }
-    Ok(())
+    all_depart(&rt, rt.alloc(), Rules::UNIQUE_KEYS, TWICE, DUPLICATES)?;
+    // which is read otherwise
+    all_pass(rt.alloc(), Rules::ANY, DUPLICATES)
 }
 
 #[test]
 fn reads_keys_in_any_order(rt: HostRuntime) -> Done {
-    for bytes in UNIQUE {
-        keeps(rt.alloc(), Rules::UNIQUE_KEYS, bytes)?;
-    }
-    Ok(())
+    all_keep(rt.alloc(), Rules::UNIQUE_KEYS, UNIQUE)
 }
 
+const SHORTEST_AND_UNIQUE: Rules = Rules {
+    shortest_heads: true,
+    ..Rules::UNIQUE_KEYS
+};
+
 // Which comes first: another rule's departure, or a key twice.
+const BOTH: &[Row] = &[
+    // the head of the second key ends where that key does
+    (
+        SHORTEST_AND_UNIQUE,
+        b"\xa2\x01\x02\x18\x01\x03",
+        Departs(Rule::ShortestHeads, 5),
+    ),
+    (
+        SHORTEST_AND_UNIQUE,
+        b"\xa2\x01\x02\x01\x18\x03",
+        Departs(TWICE, 4),
+    ),
+];
+
 #[test]
 fn returns_the_first_departure(rt: HostRuntime) -> Done {
-    let rules = Rules {
-        shortest_heads: true,
-        ..Rules::UNIQUE_KEYS
-    };
-    // the head of the second key ends where that key does
-    let bytes = b"\xa2\x01\x02\x18\x01\x03".as_slice();
-    departs(&rt, rt.alloc(), rules, bytes, Rule::ShortestHeads, 5)?;
-    let bytes = b"\xa2\x01\x02\x01\x18\x03".as_slice();
-    departs(&rt, rt.alloc(), rules, bytes, TWICE, 4)
+    judges(&rt, rt.alloc(), BOTH)
 }
 
 // 600 keys from the greatest to the least, and then one of them again, in a longer head.

@@ -1,5 +1,6 @@
 //! What a form's call writes, read by the form's rules.
 
+use crate::checks::{error_of, value_of};
 use cbor_de::from_slice;
 use cbor_rules::{
     Refusal, write_and_read_dcbor, write_and_read_deterministic, write_and_read_length_first,
@@ -17,23 +18,14 @@ const TOO_DEEP: &str = "recursion limit exceeded at offset 128";
 /// What is read is the value that these bytes encode.
 fn has_read(rt: &impl Abort, alloc: Global, answer: Result<Value, Refusal>, bytes: &[u8]) -> Done {
     let expected: Value = from_slice(alloc, bytes)?;
-    match answer {
-        Ok(value) => {
-            assert!(rt; value == expected);
-            Ok(())
-        }
-        Err(Refusal::Unread(e)) => Err(Fail::from(e)),
-        Err(Refusal::Departs(_)) => Err(Fail::from("departs")),
-    }
+    assert!(rt; value_of(answer)? == expected);
+    Ok(())
 }
 
 /// It is refused with these words, and not for a departure.
 fn is_unread(answer: Result<Value, Refusal>, words: &str) -> Done {
-    match answer {
-        Ok(_) => Err(Fail::from("not refused")),
-        Err(Refusal::Unread(e)) => is_refused::<Value>(Err(e), words),
-        Err(Refusal::Departs(_)) => Err(Fail::from("departs")),
-    }
+    let e = error_of(answer)?;
+    is_refused::<Value>(Err(e), words)
 }
 
 /// Each form refuses the value with these words, dCBOR with its own.
@@ -59,24 +51,12 @@ fn reads_back_what_a_form_writes(rt: HostRuntime) -> Done {
     let alloc = rt.alloc();
     let numbers = (1.5f64, -4.0f64);
     let shortest = b"\x82\xf9\x3e\0\xf9\xc4\0";
-    has_read(
-        &rt,
-        alloc,
-        write_and_read_deterministic(alloc, &numbers),
-        shortest,
-    )?;
-    has_read(
-        &rt,
-        alloc,
-        write_and_read_length_first(alloc, &numbers),
-        shortest,
-    )?;
-    has_read(
-        &rt,
-        alloc,
-        write_and_read_dcbor(alloc, &numbers),
-        b"\x82\xf9\x3e\0\x23",
-    )
+    let read = write_and_read_deterministic(alloc, &numbers);
+    has_read(&rt, alloc, read, shortest)?;
+    let read = write_and_read_length_first(alloc, &numbers);
+    has_read(&rt, alloc, read, shortest)?;
+    let read = write_and_read_dcbor(alloc, &numbers);
+    has_read(&rt, alloc, read, b"\x82\xf9\x3e\0\x23")
 }
 
 // docs/FORMAT.md has the words: 2^64; 1.0 of 16 and of 32 bits as keys; and -2^63 - 1, which dCBOR
@@ -100,12 +80,8 @@ fn tells_why_a_form_writes_nothing(rt: HostRuntime) -> Done {
         write_and_read_dcbor(alloc, &low),
         "An integer is below -2^63",
     )?;
-    has_read(
-        &rt,
-        alloc,
-        write_and_read_deterministic(alloc, &low),
-        b"\x3b\x80\0\0\0\0\0\0\0",
-    )
+    let read = write_and_read_deterministic(alloc, &low);
+    has_read(&rt, alloc, read, b"\x3b\x80\0\0\0\0\0\0\0")
 }
 
 // 127 arrays are read; of 128, the head of the last ends at offset 128.
@@ -116,17 +92,10 @@ fn tells_what_is_nested_too_deep(rt: HostRuntime) -> Done {
     let value = nested(alloc, 127)?;
     let mut bytes = [0x81; 128];
     bytes[127] = 0xf6;
-    has_read(
-        &rt,
-        alloc,
-        write_and_read_deterministic(alloc, &value),
-        &bytes,
-    )?;
-    has_read(
-        &rt,
-        alloc,
-        write_and_read_length_first(alloc, &value),
-        &bytes,
-    )?;
-    has_read(&rt, alloc, write_and_read_dcbor(alloc, &value), &bytes)
+    let read = write_and_read_deterministic(alloc, &value);
+    has_read(&rt, alloc, read, &bytes)?;
+    let read = write_and_read_length_first(alloc, &value);
+    has_read(&rt, alloc, read, &bytes)?;
+    let read = write_and_read_dcbor(alloc, &value);
+    has_read(&rt, alloc, read, &bytes)
 }
