@@ -25,11 +25,10 @@ fn two_items(de: &mut Deserializer<SliceRead<'_>>) -> Answer<(Option<u8>, Option
 
 #[test]
 fn reports_how_many_items_are_left(rt: HostRuntime) -> Done {
-    let alloc = rt.alloc();
-    let mut de = Deserializer::from_slice(alloc, b"\x82\x01\xf5");
-    assert!(rt; left_behind_one(&mut de)? == (Some(2), Some(1)));
-    let mut de = Deserializer::from_slice(alloc, b"\x81\x01");
-    assert!(rt; left_behind_one(&mut de)? == (Some(1), Some(0)));
+    for (bytes, all, left) in [(&b"\x82\x01\xf5"[..], 2, 1), (b"\x81\x01", 1, 0)] {
+        let mut de = Deserializer::from_slice(rt.alloc(), bytes);
+        assert!(&rt; left_behind_one(&mut de)? == (Some(all), Some(left)));
+    }
     Ok(())
 }
 

@@ -3,58 +3,49 @@
 use crate::checks::has_taken;
 use cbor_de::{Deserializer, Offset, Source};
 use cbor_io::error::Error;
+use std::alloc::Global;
 use std::process::Abort;
 use std::test::Fail;
 use test_checks::{Done, is_refused};
 
-/// One byte is to come, and then nothing.
-fn ends_behind_a_byte<R: Source + Drop>(rt: &impl Abort, de: &mut Deserializer<R>) -> Done {
-    is_refused(de.end(), "trailing data at offset 1")?;
+/// Each byte that is to come is reported with these words, and behind them is the end.
+fn ends<R: Source + Drop>(de: &mut Deserializer<R>, words: &[&str]) -> Done {
+    for byte in words {
+        is_refused(de.end(), *byte)?;
+    }
     de.end().map_err(|e: Error| Fail::from(e))
 }
 
-#[test]
-fn ends_where_nothing_is_to_come(rt: HostRuntime) -> Done {
-    let alloc = rt.alloc();
-    Deserializer::from_slice(alloc, b"").end()?;
-    Deserializer::from_slice_with_scratch(alloc, b"", &mut []).end()?;
-    Deserializer::from_mut_slice(alloc, &mut []).end()?;
-    Deserializer::from_reader(alloc, b"".as_slice()).end()?;
-    Ok(())
-}
-
-#[test]
-fn reports_the_byte_behind_an_item(rt: HostRuntime) -> Done {
-    let alloc = rt.alloc();
-    ends_behind_a_byte(&rt, &mut Deserializer::from_slice(alloc, b"\xf6"))?;
-    let mut scratch = [0; 4];
-    let mut fixed = Deserializer::from_slice_with_scratch(alloc, b"\xf6", &mut scratch);
-    ends_behind_a_byte(&rt, &mut fixed)?;
-    let mut bytes = [0xf6];
-    let mut in_place = Deserializer::from_mut_slice(alloc, &mut bytes);
-    ends_behind_a_byte(&rt, &mut in_place)?;
-    let mut reader = Deserializer::from_reader(alloc, b"\xf6".as_slice());
-    ends_behind_a_byte(&rt, &mut reader)
-}
-
-#[test]
-fn counts_the_bytes_taken(rt: HostRuntime) -> Done {
-    let alloc = rt.alloc();
-    counts_two_bytes(&rt, Deserializer::from_slice(alloc, b"\xf6\xf6"))?;
-    let mut scratch = [0; 4];
-    let fixed = Deserializer::from_slice_with_scratch(alloc, b"\xf6\xf6", &mut scratch);
-    counts_two_bytes(&rt, fixed)?;
-    let reader = Deserializer::from_reader(alloc, b"\xf6\xf6".as_slice());
-    counts_two_bytes(&rt, reader)
-}
-
-/// Two bytes are to come, and each is counted once it is taken.
-fn counts_two_bytes<R: Source + Offset + Drop>(rt: &impl Abort, de: Deserializer<R>) -> Done {
+/// The same, and each byte is counted once it is taken.
+fn counts<R: Source + Offset + Drop>(rt: &impl Abort, de: Deserializer<R>, words: &[&str]) -> Done {
     let mut de = de;
-    has_taken(rt, &de, 0);
-    is_refused(de.end(), "trailing data at offset 1")?;
-    has_taken(rt, &de, 1);
-    is_refused(de.end(), "trailing data at offset 2")?;
-    has_taken(rt, &de, 2);
+    for (taken, byte) in words.iter().enumerate() {
+        has_taken(rt, &de, taken);
+        is_refused(de.end(), *byte)?;
+    }
+    has_taken(rt, &de, words.len());
+    ends(&mut de, &[])
+}
+
+fn by_each(rt: &impl Abort, alloc: Global, bytes: &[u8], words: &[&str]) -> Done {
+    counts(rt, Deserializer::from_slice(alloc, bytes), words)?;
+    let mut scratch = [0; 4];
+    let fixed = Deserializer::from_slice_with_scratch(alloc, bytes, &mut scratch);
+    counts(rt, fixed, words)?;
+    counts(rt, Deserializer::from_reader(alloc, bytes), words)?;
+    let mut copy = Vec::from_slice(alloc, bytes)?;
+    ends(&mut Deserializer::from_mut_slice(alloc, &mut copy), words)
+}
+
+#[test]
+fn reports_and_counts_the_bytes_before_the_end(rt: HostRuntime) -> Done {
+    let two: &[&str] = &["trailing data at offset 1", "trailing data at offset 2"];
+    for (bytes, words) in [
+        (&b""[..], &two[..0]),
+        (b"\xf6", &two[..1]),
+        (b"\xf6\xf6", two),
+    ] {
+        by_each(&rt, rt.alloc(), bytes, words)?;
+    }
     Ok(())
 }

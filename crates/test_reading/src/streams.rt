@@ -1,7 +1,7 @@
 //! What a stream holds between calls: levels, offsets and what is lent; and readers that fail.
 
 use cbor_de::{
-    Deserialize, Deserializer, IoRead, Offset, Read, SliceRead, SliceReadFixed, StreamDeserializer,
+    Deserialize, Deserializer, Offset, Read, SliceRead, SliceReadFixed, StreamDeserializer,
     read_items,
 };
 use cbor_io::error::{Error, Result as Answer};
@@ -12,17 +12,6 @@ use std::io::ErrorKind;
 use std::process::Abort;
 use std::test::Fail;
 use test_checks::{Done, is_refused};
-
-/// A number is next.
-fn gives<'a, R: Read<'a> + Drop>(
-    rt: &impl Abort,
-    stream: &mut StreamDeserializer<'a, R, Value>,
-    want: i128,
-) -> Done {
-    let value = stream.next().ok_or("none")??;
-    assert!(rt; value == Value::Integer(want));
-    Ok(())
-}
 
 /// A refusal with these words is next.
 fn refuses<'a, R: Read<'a> + Drop, T: Deserialize<'a, R>>(
@@ -49,23 +38,106 @@ fn has_taken<'a, R: Offset, T>(
     assert!(rt; stream.byte_offset() == want);
 }
 
-/// A hundred and twenty-eight times [0] is next, and then nothing for good: no level is lost.
-fn gives_arrays<'a, R: Read<'a> + Drop>(
+// ---- scripts
+
+/// What is asked of a stream of values, and what it answers.
+#[derive(Clone, Copy)]
+enum Step<'s> {
+    /// This number is next.
+    Number(i128),
+    /// This text is next.
+    Text(&'s str),
+    /// So many times [0] is next.
+    Arrays(u8),
+    /// An item is next, or an error that isn't of memory, or nothing.
+    Any,
+    /// A refusal with these words is next.
+    Refused(&'s str),
+    /// Nothing is next.
+    End,
+    /// So many bytes were taken.
+    Taken(usize),
+    /// More than so many bytes were taken, and at most so many.
+    TakenOf(usize, usize),
+}
+
+/// The stream answers as the script says.
+fn plays<'a, R: Read<'a> + Offset + Drop>(
     rt: &impl Abort,
     stream: StreamDeserializer<'a, R, Value>,
+    script: &[Step],
 ) -> Done {
     let mut stream = stream;
-    for _ in 0..128 {
-        let value = stream.next().ok_or("none")??;
-        let Value::Array(items) = value else {
+    for step in script {
+        match *step {
+            Step::Taken(want) => has_taken(rt, &stream, want),
+            Step::TakenOf(few, most) => {
+                assert!(rt; stream.byte_offset() > few && stream.byte_offset() <= most);
+            }
+            Step::Arrays(count) => gives_arrays(rt, &mut stream, count)?,
+            Step::Refused(words) => refuses(&mut stream, words)?,
+            Step::End => ends(rt, &mut stream),
+            _ => is_so(rt, stream.next(), *step)?,
+        }
+    }
+    Ok(())
+}
+
+/// So many times [0] is next.
+fn gives_arrays<'a, R: Read<'a> + Drop>(
+    rt: &impl Abort,
+    stream: &mut StreamDeserializer<'a, R, Value>,
+    count: u8,
+) -> Done {
+    for _ in 0..count {
+        let Value::Array(items) = stream.next().ok_or("none")?? else {
             return Err(Fail::from("no array"));
         };
         assert!(rt; items.len() == 1);
         assert!(rt; items[0] == Value::Integer(0));
     }
-    ends(rt, &mut stream);
-    ends(rt, &mut stream);
     Ok(())
+}
+
+/// The next answer is the one of this step.
+fn is_so(rt: &impl Abort, answer: Option<Answer<Value>>, step: Step) -> Done {
+    match (answer, step) {
+        (Some(Err(e)), Step::Any) => is_no_memory(e),
+        (Some(Err(e)), _) => Err(Fail::from(e)),
+        (Some(Ok(Value::Integer(got))), Step::Number(want)) => is(rt, got == want),
+        (Some(Ok(Value::Text(got))), Step::Text(want)) => is(rt, got.as_str() == want),
+        (_, Step::Any) => Ok(()),
+        _ => Err(Fail::from("another answer")),
+    }
+}
+
+fn is(rt: &impl Abort, so: bool) -> Done {
+    assert!(rt; so);
+    Ok(())
+}
+
+fn is_no_memory(e: Error) -> Done {
+    if e.is_memory() {
+        return Err(Fail::from(e));
+    }
+    Ok(())
+}
+
+/// By each source that counts its bytes. The scratch has so many, 32 at most.
+fn by_each(rt: &impl Abort, alloc: Global, bytes: &[u8], room: usize, script: &[Step]) -> Done {
+    plays(
+        rt,
+        Deserializer::from_slice(alloc, bytes).into_iter(),
+        script,
+    )?;
+    let mut scratch = [0; 32];
+    let source = SliceReadFixed::new(bytes, &mut scratch[..room.min(32)]);
+    plays(rt, StreamDeserializer::new(alloc, source), script)?;
+    plays(
+        rt,
+        Deserializer::from_reader(alloc, bytes).into_iter(),
+        script,
+    )
 }
 
 fn arrays(alloc: Global) -> Result<Vec<u8>, Fail> {
@@ -76,103 +148,68 @@ fn arrays(alloc: Global) -> Result<Vec<u8>, Fail> {
     Ok(bytes)
 }
 
+// A hundred and twenty-eight times [0], and then nothing for good.
 #[test]
 fn loses_no_level(rt: HostRuntime) -> Done {
     let alloc = rt.alloc();
     let mut bytes = arrays(alloc)?;
-    gives_arrays(&rt, Deserializer::from_slice(alloc, &bytes).into_iter())?;
-    let mut scratch = [0; 4];
-    let de = Deserializer::from_slice_with_scratch(alloc, &bytes, &mut scratch);
-    gives_arrays(&rt, de.into_iter())?;
-    gives_arrays(
-        &rt,
-        Deserializer::from_reader(alloc, bytes.as_slice()).into_iter(),
-    )?;
-    gives_arrays(
-        &rt,
-        Deserializer::from_mut_slice(alloc, &mut bytes).into_iter(),
-    )
-}
-
-/// An error that isn't of memory, an item or none.
-fn is_reported(answer: Option<Result<Value, Error>>) -> Done {
-    match answer {
-        Some(Err(e)) => is_no_memory(e),
-        Some(Ok(_item)) => Ok(()),
-        None => Ok(()),
-    }
-}
-
-fn is_no_memory(e: Error) -> Done {
-    if e.is_memory() {
-        return Err(Fail::from(e));
-    }
+    let script = [Step::Arrays(128), Step::End, Step::End];
+    by_each(&rt, alloc, &bytes, 4, &script)?;
+    let mut stream = Deserializer::from_mut_slice(alloc, &mut bytes).into_iter();
+    gives_arrays(&rt, &mut stream, 128)?;
+    ends(&rt, &mut stream);
+    ends(&rt, &mut stream);
     Ok(())
 }
 
 /// So many bytes were taken after each answer, and nothing follows.
-fn takes<'a, R: Read<'a> + Offset + Drop>(
-    rt: &impl Abort,
-    de: Deserializer<R>,
-    wants: &[usize],
-) -> Done {
-    let mut stream = de.into_iter::<Value>();
-    has_taken(rt, &stream, 0);
+fn takes(rt: &impl Abort, alloc: Global, bytes: &[u8], wants: &[usize]) -> Done {
+    let mut script = Vec::from_slice(alloc, &[Step::Taken(0)])?;
     for want in wants {
-        is_reported(stream.next())?;
-        has_taken(rt, &stream, *want);
+        script.extend_from_slice(&[Step::Any, Step::Taken(*want)])?;
     }
-    ends(rt, &mut stream);
-    Ok(())
-}
-
-/// So many by each source that counts them.
-fn takes_by_each(rt: &impl Abort, alloc: Global, bytes: &[u8], wants: &[usize]) -> Done {
-    takes(rt, Deserializer::from_slice(alloc, bytes), wants)?;
-    let mut scratch = [0; 32];
-    let de = Deserializer::from_slice_with_scratch(alloc, bytes, &mut scratch);
-    takes(rt, de, wants)?;
-    takes(rt, Deserializer::from_reader(alloc, bytes), wants)
+    script.push(Step::End)?;
+    by_each(rt, alloc, bytes, 32, &script)
 }
 
 #[test]
 fn counts_behind_each_answer(rt: HostRuntime) -> Done {
-    let alloc = rt.alloc();
-    takes_by_each(&rt, alloc, b"", &[0, 0])?;
-    takes_by_each(&rt, alloc, b"\x01\x02\xff\x03", &[1, 2, 3, 3])?;
-    takes_by_each(&rt, alloc, b"\x9f", &[1, 1])?;
-    takes_by_each(&rt, alloc, b"\xbf\x01", &[2, 2])?;
-    takes_by_each(&rt, alloc, b"\x82\x01", &[2, 2])?;
-    takes_by_each(&rt, alloc, b"\x7f\x65", &[2, 2])?;
-    takes_by_each(&rt, alloc, b"\x7f\x65Mary \x64Had ", &[12, 12])?;
-    takes_by_each(&rt, alloc, b"\xf6\x81\xf8", &[1, 3, 3])?;
-    takes_by_each(&rt, alloc, b"\x81\x00\x81\x00", &[2, 4, 4])
-}
-
-/// A number, and then a text that is cut off, of which a part may be taken.
-fn counts_a_beginning<'a, R: Read<'a> + Offset + Drop>(
-    rt: &impl Abort,
-    de: Deserializer<R>,
-) -> Done {
-    let mut stream = de.into_iter::<Value>();
-    gives(rt, &mut stream, 1)?;
-    has_taken(rt, &stream, 1);
-    refuses(&mut stream, "EOF while parsing a value at offset 6")?;
-    assert!(rt; stream.byte_offset() > 1 && stream.byte_offset() <= 6);
-    ends(rt, &mut stream);
+    for (bytes, wants) in [
+        (&b""[..], &[0, 0][..]),
+        (b"\x01\x02\xff\x03", &[1, 2, 3, 3]),
+        (b"\x9f", &[1, 1]),
+        (b"\xbf\x01", &[2, 2]),
+        (b"\x82\x01", &[2, 2]),
+        (b"\x7f\x65", &[2, 2]),
+        (b"\x7f\x65Mary \x64Had ", &[12, 12]),
+        (b"\xf6\x81\xf8", &[1, 3, 3]),
+        (b"\x81\x00\x81\x00", &[2, 4, 4]),
+    ] {
+        takes(&rt, rt.alloc(), bytes, wants)?;
+    }
     Ok(())
 }
 
+// A number, and then a text that is cut off, of which a part may be taken.
 #[test]
 fn counts_of_an_item_that_is_cut_off(rt: HostRuntime) -> Done {
-    let alloc = rt.alloc();
-    let bytes = b"\x01\x66foob";
-    counts_a_beginning(&rt, Deserializer::from_slice(alloc, bytes))?;
-    let mut scratch = [0; 4];
-    let de = Deserializer::from_slice_with_scratch(alloc, bytes, &mut scratch);
-    counts_a_beginning(&rt, de)?;
-    counts_a_beginning(&rt, Deserializer::from_reader(alloc, bytes.as_slice()))
+    let script = [
+        Step::Number(1),
+        Step::Taken(1),
+        Step::Refused("EOF while parsing a value at offset 6"),
+        Step::TakenOf(1, 6),
+        Step::End,
+    ];
+    by_each(&rt, rt.alloc(), b"\x01\x66foob", 4, &script)
 }
+
+#[test]
+fn counts_the_bytes_taken(rt: HostRuntime) -> Done {
+    let script = [Step::Taken(0), Step::Text("foobar"), Step::Taken(7)];
+    by_each(&rt, rt.alloc(), b"\x66foobar\x66foobar", 4, &script)
+}
+
+// ---- streams of other types
 
 #[test]
 fn gives_texts_that_the_slice_lends(rt: HostRuntime) -> Done {
@@ -201,22 +238,9 @@ fn goes_on_behind_an_item(rt: HostRuntime) -> Done {
     Ok(())
 }
 
-#[test]
-fn reads_all_items(rt: HostRuntime) -> Done {
-    let alloc = rt.alloc();
-    let numbers = read_items::<u8, SliceRead>(alloc, SliceRead::new(alloc, b"\x01\x18\x2a"))?;
-    assert!(rt; numbers.as_slice() == [1, 42].as_slice());
-    let mut sum = 0u64;
-    let source = SliceRead::new(alloc, b"\x01\x18\x2a");
-    for number in StreamDeserializer::<SliceRead, u8>::new(alloc, source).take(2) {
-        sum = sum.wrapping_add(u64::from(number?));
-    }
-    assert!(rt; sum == 43);
-    let source = SliceRead::new(alloc, b"\x01\x18\x2a");
-    let stream = StreamDeserializer::<SliceRead, u8>::new(alloc, source);
-    let all: Vec<u8> = stream.try_collect(alloc)?;
-    assert!(rt; all.len() == 2);
-    Ok(())
+/// A stream of the numbers 1 and 42.
+fn one_and_42(alloc: Global) -> StreamDeserializer<'static, SliceRead<'static>, u8> {
+    StreamDeserializer::new(alloc, SliceRead::new(alloc, b"\x01\x18\x2a"))
 }
 
 /// All numbers of these bytes.
@@ -224,53 +248,34 @@ fn numbers(alloc: Global, bytes: &[u8]) -> Answer<Vec<u8>> {
     read_items(alloc, SliceRead::new(alloc, bytes))
 }
 
+#[test]
+fn reads_all_items(rt: HostRuntime) -> Done {
+    let alloc = rt.alloc();
+    assert!(rt; numbers(alloc, b"\x01\x18\x2a")?.as_slice() == [1, 42].as_slice());
+    let mut sum = 0u64;
+    for number in one_and_42(alloc).take(2) {
+        sum = sum.wrapping_add(u64::from(number?));
+    }
+    assert!(rt; sum == 43);
+    let all: Vec<u8> = one_and_42(alloc).try_collect(alloc)?;
+    assert!(rt; all.len() == 2);
+    Ok(())
+}
+
 // The first refusal is the answer, as it is of a stream; and nothing is no item.
 #[test]
 fn reads_all_items_or_none(rt: HostRuntime) -> Done {
     let alloc = rt.alloc();
     assert!(rt; numbers(alloc, b"")?.is_empty());
-    is_refused(
-        numbers(alloc, b"\x01\x18"),
-        "EOF while parsing a value at offset 2",
-    )?;
-    is_refused(
-        numbers(alloc, b"\x01\x1c\x02\xff"),
-        "unassigned type at offset 2",
-    )?;
-    is_refused(
-        numbers(alloc, b"\x01\x02\xff"),
-        "unexpected code at offset 3",
-    )?;
-    is_refused(
-        numbers(alloc, b"\x01\xf5\x1c"),
-        "invalid type: expected an integer",
-    )
-}
-
-/// One text is taken of two, and counted.
-fn counts_one_text<'a, R: Read<'a> + Offset + Drop>(
-    rt: &impl Abort,
-    stream: StreamDeserializer<'a, R, String>,
-) -> Done {
-    let mut stream = stream;
-    has_taken(rt, &stream, 0);
-    let text = stream.next().ok_or("none")??;
-    assert!(rt; text.as_str() == "foobar");
-    has_taken(rt, &stream, 7);
+    for (bytes, words) in [
+        (&b"\x01\x18"[..], "EOF while parsing a value at offset 2"),
+        (b"\x01\x1c\x02\xff", "unassigned type at offset 2"),
+        (b"\x01\x02\xff", "unexpected code at offset 3"),
+        (b"\x01\xf5\x1c", "invalid type: expected an integer"),
+    ] {
+        is_refused(numbers(alloc, bytes), words)?;
+    }
     Ok(())
-}
-
-#[test]
-fn counts_the_bytes_taken(rt: HostRuntime) -> Done {
-    let alloc = rt.alloc();
-    let bytes = b"\x66foobar\x66foobar";
-    let source = SliceRead::new(alloc, bytes);
-    counts_one_text(&rt, StreamDeserializer::new(alloc, source))?;
-    let mut scratch = [0; 4];
-    let source = SliceReadFixed::new(bytes, &mut scratch);
-    counts_one_text(&rt, StreamDeserializer::new(alloc, source))?;
-    let source = IoRead::new(alloc, bytes.as_slice());
-    counts_one_text(&rt, StreamDeserializer::new(alloc, source))
 }
 
 /// A reader of one byte a call, which fails after its bytes.
@@ -290,33 +295,24 @@ impl io::Read for Failing<'_> {
     }
 }
 
-// What came whole is given, before the byte after it is asked for.
+// What came whole is given, before the byte after it is asked for; a fault between items and one
+// within an item end the stream.
 #[test]
 fn gives_what_comes_before_a_fault(rt: HostRuntime) -> Done {
-    let alloc = rt.alloc();
-    let reader = Failing {
-        bytes: b"\x01\x18\x2a",
-    };
-    let mut stream = Deserializer::from_reader(alloc, reader).into_iter::<u8>();
-    assert!(rt; stream.next().ok_or("none")?? == 1);
-    has_taken(&rt, &stream, 1);
-    assert!(rt; stream.next().ok_or("none")?? == 42);
-    has_taken(&rt, &stream, 3);
-    refuses(&mut stream, "I/O error")?;
-    ends(&rt, &mut stream);
-    Ok(())
-}
-
-// A fault within an item.
-#[test]
-fn ends_by_a_fault_within_an_item(rt: HostRuntime) -> Done {
-    let alloc = rt.alloc();
-    let reader = Failing { bytes: b"\x01\x18" };
-    let mut stream = Deserializer::from_reader(alloc, reader).into_iter::<u8>();
-    assert!(rt; stream.next().ok_or("none")?? == 1);
-    refuses(&mut stream, "I/O error")?;
-    ends(&rt, &mut stream);
-    ends(&rt, &mut stream);
+    for (bytes, items) in [
+        (&b"\x01\x18\x2a"[..], &[(1, 1), (42, 3)][..]),
+        (b"\x01\x18", &[(1, 1)]),
+    ] {
+        let de = Deserializer::from_reader(rt.alloc(), Failing { bytes });
+        let mut stream = de.into_iter::<u8>();
+        for (number, taken) in items {
+            assert!(&rt; stream.next().ok_or("none")?? == *number);
+            has_taken(&rt, &stream, *taken);
+        }
+        refuses(&mut stream, "I/O error")?;
+        ends(&rt, &mut stream);
+        ends(&rt, &mut stream);
+    }
     Ok(())
 }
 

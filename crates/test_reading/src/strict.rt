@@ -1,14 +1,18 @@
 //! Types that are read strictly, or refused by what comes first.
 
+use cbor_io::error::Result as Answer;
 use cbor_strict::from_slice_canonical_as;
 use std::alloc::Global;
 use test_checks::{Done, is_refused};
 
+fn number(alloc: Global, bytes: &[u8]) -> Answer<u8> {
+    from_slice_canonical_as(alloc, bytes)
+}
+
 #[test]
 fn reads_types_from_canonical_spellings(rt: HostRuntime) -> Done {
     let alloc = rt.alloc();
-    let number: u8 = from_slice_canonical_as(alloc, b"\x18\x2a")?;
-    assert!(rt; number == 42);
+    assert!(rt; number(alloc, b"\x18\x2a")? == 42);
     let bytes = b"\x63CID";
     let name: &str = from_slice_canonical_as(alloc, bytes)?;
     assert!(rt; name == "CID");
@@ -17,17 +21,16 @@ fn reads_types_from_canonical_spellings(rt: HostRuntime) -> Done {
     Ok(())
 }
 
-/// The bytes are refused as a `u8`, with these words.
-fn refuses(alloc: Global, bytes: &[u8], words: &str) -> Done {
-    is_refused(from_slice_canonical_as::<u8>(alloc, bytes), words)
-}
-
 // 23 in a longer head, 300, 23 in a longer head before another byte, and 23 before undefined.
 #[test]
 fn refuses_types_by_the_first_departure(rt: HostRuntime) -> Done {
-    let alloc = rt.alloc();
-    refuses(alloc, b"\x18\x17", "not canonical at offset 2")?;
-    refuses(alloc, b"\x19\x01\x2c", "integer out of range: expected u8")?;
-    refuses(alloc, b"\x18\x17\x00", "not canonical at offset 2")?;
-    refuses(alloc, b"\x17\xf7", "trailing data at offset 2")
+    for (bytes, words) in [
+        (&b"\x18\x17"[..], "not canonical at offset 2"),
+        (b"\x19\x01\x2c", "integer out of range: expected u8"),
+        (b"\x18\x17\x00", "not canonical at offset 2"),
+        (b"\x17\xf7", "trailing data at offset 2"),
+    ] {
+        is_refused(number(rt.alloc(), bytes), words)?;
+    }
+    Ok(())
 }
