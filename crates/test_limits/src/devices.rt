@@ -53,10 +53,15 @@ impl io::Read for FailingReader<'_> {
     }
 }
 
+/// A value is wanted, and the fault after these bytes is reported.
+fn value_fails(rt: &impl Abort, alloc: Global, rest: &[u8], kind: ErrorKind) -> Done {
+    let answer = from_reader::<Value, _>(alloc, FailingReader { rest, kind });
+    is_fault(rt, answer, kind)
+}
+
 // At the first byte, within a head, a text, an array and chunks, and where nothing more is wanted.
 #[test]
 fn reports_the_kind_of_a_readers_fault(rt: HostRuntime) -> Done {
-    let alloc = rt.alloc();
     for kind in KINDS {
         for rest in [
             b"".as_slice(),
@@ -66,8 +71,7 @@ fn reports_the_kind_of_a_readers_fault(rt: HostRuntime) -> Done {
             b"\x7f\x61a",
             b"\x00",
         ] {
-            let answer = from_reader::<Value, _>(alloc, FailingReader { rest, kind });
-            is_fault(&rt, answer, kind)?;
+            value_fails(&rt, rt.alloc(), rest, kind)?;
         }
     }
     Ok(())
@@ -91,12 +95,7 @@ fn reports_the_kind_of_a_fault_in_what_is_not_kept(rt: HostRuntime) -> Done {
 // A reader's interruption is reported, and not tried again.
 #[test]
 fn reports_an_interruption_of_a_reader(rt: HostRuntime) -> Done {
-    let kind = ErrorKind::Interrupted;
-    let reader = FailingReader {
-        rest: b"\x82\x01",
-        kind,
-    };
-    is_fault(&rt, from_reader::<Value, _>(rt.alloc(), reader), kind)
+    value_fails(&rt, rt.alloc(), b"\x82\x01", ErrorKind::Interrupted)
 }
 
 /// A writer that is interrupted so many times before each write, and fails once it has taken so
@@ -145,15 +144,18 @@ fn text(alloc: Global) -> Result<Value, Fail> {
     Ok(Value::Text("foobar".to_owned(alloc)?))
 }
 
+fn writes(alloc: Global, writer: &mut Interrupted, value: &Value) -> Answer<()> {
+    to_writer(alloc, &mut IoWrite::new(writer), value)
+}
+
 #[test]
 fn reports_the_kind_of_a_writers_fault(rt: HostRuntime) -> Done {
     let alloc = rt.alloc();
     let value = text(alloc)?;
     for kind in KINDS {
         for most in [0, 1, 6] {
-            let writer = Interrupted::new(alloc, 1, most, kind)?;
-            let done = to_writer(alloc, &mut IoWrite::new(writer), &value);
-            is_fault(&rt, done, kind)?;
+            let mut writer = Interrupted::new(alloc, 1, most, kind)?;
+            is_fault(&rt, writes(alloc, &mut writer, &value), kind)?;
         }
     }
     Ok(())
@@ -165,8 +167,8 @@ fn tries_an_interrupted_write_again_however_often(rt: HostRuntime) -> Done {
     let value = text(alloc)?;
     for times in [1, 2, 1000, 100_000] {
         let mut writer = Interrupted::new(alloc, times, 7, ErrorKind::Other)?;
-        to_writer(alloc, &mut IoWrite::new(&mut writer), &value)?;
-        assert!(rt; writer.taken.as_slice() == b"\x66foobar".as_slice());
+        writes(alloc, &mut writer, &value)?;
+        assert!(&rt; writer.taken.as_slice() == b"\x66foobar".as_slice());
     }
     Ok(())
 }

@@ -3,7 +3,7 @@
 use cbor_de::{
     Deserializer, IgnoredAny, from_mut_slice, from_reader, from_slice, from_slice_with_scratch,
 };
-use cbor_io::error::Error;
+use cbor_io::error::{Error, Result as Answer};
 use cbor_ser::{IoWrite, SliceWrite, to_vec, to_writer};
 use cbor_strict::from_slice_canonical;
 use cbor_value::Value;
@@ -40,26 +40,48 @@ fn up_to_break(
 /// The value is written as these bytes by each sink.
 fn writes(rt: &impl Abort, alloc: Global, value: &Value, want: &[u8]) -> Done {
     assert!(rt; to_vec(alloc, value)?.as_slice() == want);
+    let mut file: Vec<u8> = Vec::with_capacity(alloc, want.len())?;
+    to_writer(alloc, &mut IoWrite::new(&mut file), value)?;
+    assert!(rt; file.as_slice() == want);
+    fills(rt, alloc, value, want)
+}
+
+/// A slice of their length is filled by the value's bytes.
+fn fills(rt: &impl Abort, alloc: Global, value: &Value, want: &[u8]) -> Done {
     let mut room: Vec<u8> = vec![in alloc; 0; want.len()]?;
     let mut sink = SliceWrite::new(&mut room);
     to_writer(alloc, &mut sink, value)?;
     assert!(rt; sink.bytes_written() == want.len());
     assert!(rt; &*sink.into_inner() == want);
-    let mut file: Vec<u8> = Vec::with_capacity(alloc, want.len())?;
-    to_writer(alloc, &mut IoWrite::new(&mut file), value)?;
-    assert!(rt; file.as_slice() == want);
     Ok(())
+}
+
+#[derive(Clone, Copy)]
+enum By {
+    Slice,
+    Scratch,
+    MutSlice,
+    Reader,
+}
+
+fn read(alloc: Global, bytes: &[u8], by: By) -> Answer<Value> {
+    match by {
+        By::Slice => from_slice(alloc, bytes),
+        By::Scratch => {
+            let mut scratch: Vec<u8> = vec![in alloc; 0; 131_072]?;
+            from_slice_with_scratch(alloc, bytes, &mut scratch)
+        }
+        By::MutSlice => from_mut_slice(alloc, &mut Vec::from_slice(alloc, bytes)?),
+        By::Reader => from_reader(alloc, bytes),
+    }
 }
 
 /// The bytes are a value by each source, which is written as those.
 fn becomes(rt: &impl Abort, alloc: Global, bytes: &[u8], want: &[u8]) -> Done {
-    writes(rt, alloc, &from_slice(alloc, bytes)?, want)?;
-    let mut scratch: Vec<u8> = vec![in alloc; 0; 131_072]?;
-    let value = from_slice_with_scratch(alloc, bytes, &mut scratch)?;
-    writes(rt, alloc, &value, want)?;
-    let mut copy = Vec::from_slice(alloc, bytes)?;
-    writes(rt, alloc, &from_mut_slice(alloc, &mut copy)?, want)?;
-    writes(rt, alloc, &from_reader(alloc, bytes)?, want)
+    for by in [By::Slice, By::Scratch, By::MutSlice, By::Reader] {
+        writes(rt, alloc, &read(alloc, bytes, by)?, want)?;
+    }
+    Ok(())
 }
 
 /// They are the canonical encoding of it.
@@ -71,32 +93,27 @@ fn stays(rt: &impl Abort, alloc: Global, bytes: &[u8]) -> Done {
 #[test]
 fn keeps_long_strings(rt: HostRuntime) -> Done {
     let alloc = rt.alloc();
-    stays(&rt, alloc, &times(alloc, b"\x5a\0\x01\0\0", b"\x2a", MANY)?)?;
-    stays(&rt, alloc, &times(alloc, b"\x7a\0\x01\0\0", b"a", MANY)?)?;
-    stays(
-        &rt,
-        alloc,
-        &times(alloc, b"\x7a\0\x03\0\0", "水".as_bytes(), MANY)?,
-    )
+    for (head, part) in [
+        (b"\x5a\0\x01\0\0", &b"\x2a"[..]),
+        (b"\x7a\0\x01\0\0", b"a"),
+        (b"\x7a\0\x03\0\0", "水".as_bytes()),
+    ] {
+        stays(&rt, alloc, &times(alloc, head, part, MANY)?)?;
+    }
+    Ok(())
 }
 
 #[test]
 fn joins_many_chunks(rt: HostRuntime) -> Done {
     let alloc = rt.alloc();
-    let bytes = up_to_break(alloc, b"\x5f", b"\x41\x2a", MANY)?;
-    becomes(
-        &rt,
-        alloc,
-        &bytes,
-        &times(alloc, b"\x5a\0\x01\0\0", b"\x2a", MANY)?,
-    )?;
-    let bytes = up_to_break(alloc, b"\x7f", b"\x61a", MANY)?;
-    becomes(
-        &rt,
-        alloc,
-        &bytes,
-        &times(alloc, b"\x7a\0\x01\0\0", b"a", MANY)?,
-    )
+    for (open, chunk, head, part) in [
+        (b"\x5f", b"\x41\x2a", b"\x5a\0\x01\0\0", b"\x2a"),
+        (b"\x7f", b"\x61a", b"\x7a\0\x01\0\0", b"a"),
+    ] {
+        let bytes = up_to_break(alloc, open, chunk, MANY)?;
+        becomes(&rt, alloc, &bytes, &times(alloc, head, part, MANY)?)?;
+    }
+    Ok(())
 }
 
 // Bytes that were moved for each chunk would take minutes.
@@ -177,17 +194,25 @@ fn reads_long_streams(rt: HostRuntime) -> Done {
     Ok(())
 }
 
+fn text_by_reader(alloc: Global, bytes: &[u8]) -> Answer<String> {
+    from_reader(alloc, bytes)
+}
+
+fn skipped_by_reader(alloc: Global, bytes: &[u8]) -> Answer<IgnoredAny> {
+    from_reader(alloc, bytes)
+}
+
 #[test]
 fn refuses_long_items_that_are_cut_off(rt: HostRuntime) -> Done {
     let alloc = rt.alloc();
     let text = times(alloc, b"\x7a\0\x01\0\x01", b"a", MANY)?;
     let end = "EOF while parsing a value at offset 65541";
-    is_refused(from_slice::<Value>(alloc, &text), end)?;
-    is_refused(from_reader::<String, _>(alloc, text.as_slice()), end)?;
+    is_refused(read(alloc, &text, By::Slice), end)?;
+    is_refused(text_by_reader(alloc, &text), end)?;
     let array = times(alloc, b"\x9f", b"\xf6", MANY)?;
     let end = "EOF while parsing an array at offset 65537";
-    is_refused(from_slice::<Value>(alloc, &array), end)?;
-    is_refused(from_reader::<IgnoredAny, _>(alloc, array.as_slice()), end)
+    is_refused(read(alloc, &array, By::Slice), end)?;
+    is_refused(skipped_by_reader(alloc, &array), end)
 }
 
 #[test]
@@ -196,8 +221,8 @@ fn refuses_a_long_text_that_is_not_utf8(rt: HostRuntime) -> Done {
     let mut text = times(alloc, b"\x7a\0\x01\0\x01", b"a", MANY)?;
     text.push(0xff)?;
     let bad = "invalid UTF-8 at offset 65541";
-    is_refused(from_slice::<Value>(alloc, &text), bad)?;
-    is_refused(from_reader::<String, _>(alloc, text.as_slice()), bad)
+    is_refused(read(alloc, &text, By::Slice), bad)?;
+    is_refused(text_by_reader(alloc, &text), bad)
 }
 
 // A message owns its text, which is printed whole.

@@ -1,6 +1,7 @@
 //! How much room is taken for what is read and written.
 
 use cbor_de::from_slice;
+use cbor_io::error::Result as Answer;
 use cbor_read::{IoRead, Source};
 use cbor_ser::to_vec;
 use cbor_strict::from_slice_canonical_as;
@@ -29,17 +30,26 @@ fn has_doubled(rt: &impl Abort, len: usize, capacity: usize) {
     assert!(rt; capacity <= 131_072);
 }
 
+fn numbers(alloc: Global, bytes: &[u8]) -> Answer<Vec<u8>> {
+    from_slice(alloc, bytes)
+}
+
+fn values(alloc: Global, bytes: &[u8]) -> Result<Vec<Value>, Fail> {
+    let value: Value = from_slice(alloc, bytes)?;
+    let Ok(items) = value.into_array() else {
+        return Err(Fail::from("no array"));
+    };
+    Ok(items)
+}
+
 #[test]
 fn grows_by_doubling(rt: HostRuntime) -> Done {
     let alloc = rt.alloc();
     let bytes = zeros(alloc, 65_537)?;
-    let numbers: Vec<u8> = from_slice(alloc, &bytes)?;
+    let numbers = numbers(alloc, &bytes)?;
     has_doubled(&rt, numbers.len(), numbers.capacity());
-    let value: Value = from_slice(alloc, &bytes)?;
-    let Ok(items) = value.into_array() else {
-        return Err(Fail::from("no array"));
-    };
-    has_doubled(&rt, items.len(), items.capacity());
+    let values = values(alloc, &bytes)?;
+    has_doubled(&rt, values.len(), values.capacity());
     Ok(())
 }
 
@@ -47,35 +57,33 @@ fn grows_by_doubling(rt: HostRuntime) -> Done {
 #[test]
 fn writes_by_doubling(rt: HostRuntime) -> Done {
     let alloc = rt.alloc();
-    let numbers: Vec<u8> = from_slice(alloc, &zeros(alloc, 65_534)?)?;
-    let written = to_vec(alloc, &numbers)?;
+    let written = to_vec(alloc, &numbers(alloc, &zeros(alloc, 65_534)?)?)?;
     has_doubled(&rt, written.len(), written.capacity());
     Ok(())
 }
 
 /// So many zeros are read into a vector of at most so much room.
 fn takes_room(rt: &impl Abort, alloc: Global, bytes: &[u8], count: usize, most: usize) -> Done {
-    let numbers: Vec<u8> = from_slice(alloc, bytes)?;
-    assert!(rt; numbers.len() == count);
-    assert!(rt; numbers.capacity() <= most);
-    let value: Value = from_slice(alloc, bytes)?;
-    let Ok(items) = value.into_array() else {
-        return Err(Fail::from("no array"));
-    };
-    assert!(rt; items.len() == count);
-    assert!(rt; items.capacity() <= most);
+    let numbers = numbers(alloc, bytes)?;
+    assert!(rt; numbers.len() == count && numbers.capacity() <= most);
+    let values = values(alloc, bytes)?;
+    assert!(rt; values.len() == count && values.capacity() <= most);
     Ok(())
 }
 
 #[test]
 fn takes_room_for_the_items_that_there_are(rt: HostRuntime) -> Done {
-    let alloc = rt.alloc();
-    takes_room(&rt, alloc, b"\x80", 0, 0)?;
-    takes_room(&rt, alloc, b"\x81\0", 1, 1)?;
-    takes_room(&rt, alloc, b"\x82\0\0", 2, 8)?;
-    takes_room(&rt, alloc, b"\x83\0\0\0", 3, 8)?;
-    takes_room(&rt, alloc, b"\x9f\0\0\0\xff", 3, 8)?;
-    takes_room(&rt, alloc, b"\x89\0\0\0\0\0\0\0\0\0", 9, 16)
+    for (bytes, count, most) in [
+        (&b"\x80"[..], 0, 0),
+        (b"\x81\0", 1, 1),
+        (b"\x82\0\0", 2, 8),
+        (b"\x83\0\0\0", 3, 8),
+        (b"\x9f\0\0\0\xff", 3, 8),
+        (b"\x89\0\0\0\0\0\0\0\0\0", 9, 16),
+    ] {
+        takes_room(&rt, rt.alloc(), bytes, count, most)?;
+    }
+    Ok(())
 }
 
 // What a reader passes over is held one string at a time.
@@ -93,16 +101,19 @@ fn holds_what_it_skips_alone(rt: HostRuntime) -> Done {
     Ok(())
 }
 
+fn strict_number(alloc: Global, bytes: &[u8]) -> Answer<u32> {
+    from_slice_canonical_as(alloc, bytes)
+}
+
 // A text that is lent, a number, and a head that isn't the shortest (.ci/growths).
 #[test]
 fn reads_strictly_without_memory(rt: HostRuntime) -> Done {
     let alloc = rt.alloc();
     let text: &str = from_slice_canonical_as(alloc, b"\x65hello")?;
     assert!(rt; text == "hello");
-    let number: u32 = from_slice_canonical_as(alloc, b"\x1a\x00\x01\x00\x00")?;
-    assert!(rt; number == 65_536);
+    assert!(rt; strict_number(alloc, b"\x1a\x00\x01\x00\x00")? == 65_536);
     is_refused(
-        from_slice_canonical_as::<u32>(alloc, b"\x18\x17"),
+        strict_number(alloc, b"\x18\x17"),
         "not canonical at offset 2",
     )
 }

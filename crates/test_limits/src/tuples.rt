@@ -34,75 +34,47 @@ const OPEN: [&'static [u8]; 10] = [
     b"\x9f\0\0\0\0\0\0\0\0\0\xff",
 ];
 
-/// A tuple of so many refuses each of these arrays that is of fewer.
-fn wants<'a, T: Deserialize<'a, SliceRead<'a>>>(
+/// The array is refused as this type, with these words.
+fn refuses<'a, T: Deserialize<'a, SliceRead<'a>>>(
     alloc: Global,
-    arrays: &[&'a [u8]],
-    count: usize,
+    bytes: &'a [u8],
+    words: &str,
 ) -> Done {
-    for (n, bytes) in arrays.iter().take(count).enumerate() {
-        let words = InlineText::<48>::of(format_args!("invalid length {n}, expected {count}"));
-        is_refused(from_slice::<T>(alloc, *bytes), words.as_str())?;
+    is_refused(from_slice::<T>(alloc, bytes), words)
+}
+
+/// A tuple of so many refuses each array of fewer, and each of more: where a count is declared,
+/// behind the last item that is wanted; up to a break, behind the first byte of the next.
+fn wants<'a, T: Deserialize<'a, SliceRead<'a>>>(alloc: Global, count: usize) -> Done {
+    for (arrays, before_next) in [(&ZEROS, 1), (&OPEN, 2)] {
+        for (n, bytes) in arrays.iter().enumerate() {
+            if n < count {
+                let fewer = format_args!("invalid length {n}, expected {count}");
+                refuses::<T>(alloc, *bytes, InlineText::<48>::of(fewer).as_str())?;
+            } else if n > count {
+                let offset = count.saturating_add(before_next);
+                let more = format_args!("trailing data at offset {offset}");
+                refuses::<T>(alloc, *bytes, InlineText::<48>::of(more).as_str())?;
+            }
+        }
     }
     Ok(())
 }
 
 #[test]
-fn reports_the_length_of_tuples_up_to_four(rt: HostRuntime) -> Done {
+fn takes_its_length_alone_up_to_four(rt: HostRuntime) -> Done {
     let alloc = rt.alloc();
-    wants::<(u8,)>(alloc, &ZEROS, 1)?;
-    wants::<(u8, u8)>(alloc, &ZEROS, 2)?;
-    wants::<(u8, u8, u8)>(alloc, &ZEROS, 3)?;
-    wants::<(u8, u8, u8, u8)>(alloc, &ZEROS, 4)
+    wants::<(u8,)>(alloc, 1)?;
+    wants::<(u8, u8)>(alloc, 2)?;
+    wants::<(u8, u8, u8)>(alloc, 3)?;
+    wants::<(u8, u8, u8, u8)>(alloc, 4)
 }
 
 #[test]
-fn reports_the_length_of_tuples_beyond_four(rt: HostRuntime) -> Done {
+fn takes_its_length_alone_beyond_four(rt: HostRuntime) -> Done {
     let alloc = rt.alloc();
-    wants::<(u8, u8, u8, u8, u8)>(alloc, &ZEROS, 5)?;
-    wants::<(u8, u8, u8, u8, u8, u8)>(alloc, &ZEROS, 6)?;
-    wants::<(u8, u8, u8, u8, u8, u8, u8)>(alloc, &ZEROS, 7)?;
-    wants::<(u8, u8, u8, u8, u8, u8, u8, u8)>(alloc, &ZEROS, 8)
-}
-
-#[test]
-fn reports_the_length_of_tuples_up_to_a_break(rt: HostRuntime) -> Done {
-    let alloc = rt.alloc();
-    wants::<(u8,)>(alloc, &OPEN, 1)?;
-    wants::<(u8, u8)>(alloc, &OPEN, 2)?;
-    wants::<(u8, u8, u8)>(alloc, &OPEN, 3)?;
-    wants::<(u8, u8, u8, u8)>(alloc, &OPEN, 4)?;
-    wants::<(u8, u8, u8, u8, u8)>(alloc, &OPEN, 5)?;
-    wants::<(u8, u8, u8, u8, u8, u8)>(alloc, &OPEN, 6)?;
-    wants::<(u8, u8, u8, u8, u8, u8, u8)>(alloc, &OPEN, 7)?;
-    wants::<(u8, u8, u8, u8, u8, u8, u8, u8)>(alloc, &OPEN, 8)
-}
-
-/// A tuple of so many refuses each of these arrays that is of more, behind so many of its bytes.
-fn wants_no_more<'a, T: Deserialize<'a, SliceRead<'a>>>(
-    alloc: Global,
-    arrays: &[&'a [u8]],
-    count: usize,
-    offset: usize,
-) -> Done {
-    for bytes in arrays.iter().skip(count).skip(1) {
-        let words = InlineText::<48>::of(format_args!("trailing data at offset {offset}"));
-        is_refused(from_slice::<T>(alloc, *bytes), words.as_str())?;
-    }
-    Ok(())
-}
-
-// Where a count is declared, behind the last item that is wanted; up to a break, behind the first
-// byte of the next.
-#[test]
-fn refuses_an_item_too_many(rt: HostRuntime) -> Done {
-    let alloc = rt.alloc();
-    wants_no_more::<(u8, u8, u8, u8, u8)>(alloc, &ZEROS, 5, 6)?;
-    wants_no_more::<(u8, u8, u8, u8, u8)>(alloc, &OPEN, 5, 7)?;
-    wants_no_more::<(u8, u8, u8, u8, u8, u8)>(alloc, &ZEROS, 6, 7)?;
-    wants_no_more::<(u8, u8, u8, u8, u8, u8)>(alloc, &OPEN, 6, 8)?;
-    wants_no_more::<(u8, u8, u8, u8, u8, u8, u8)>(alloc, &ZEROS, 7, 8)?;
-    wants_no_more::<(u8, u8, u8, u8, u8, u8, u8)>(alloc, &OPEN, 7, 9)?;
-    wants_no_more::<(u8, u8, u8, u8, u8, u8, u8, u8)>(alloc, &ZEROS, 8, 9)?;
-    wants_no_more::<(u8, u8, u8, u8, u8, u8, u8, u8)>(alloc, &OPEN, 8, 10)
+    wants::<(u8, u8, u8, u8, u8)>(alloc, 5)?;
+    wants::<(u8, u8, u8, u8, u8, u8)>(alloc, 6)?;
+    wants::<(u8, u8, u8, u8, u8, u8, u8)>(alloc, 7)?;
+    wants::<(u8, u8, u8, u8, u8, u8, u8, u8)>(alloc, 8)
 }
