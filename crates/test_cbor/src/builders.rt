@@ -1,19 +1,16 @@
 //! What builders make, by what `to_value` makes of the whole; and what they hold after a refusal.
 
+use crate::checks::{UNSTORED, is_written};
 use samples::enums::Bar;
+use serde_cbor::Value;
 use serde_cbor::value::{
     SerializeMap, SerializeStructVariant, SerializeTupleVariant, SerializeVec, to_value,
 };
-use serde_cbor::{Value, to_vec};
 use std::test::Fail;
-use test_checks::is_refused;
+use test_checks::{Done, is_refused};
 
-type Done = Result<(), Fail>;
-
-/// A number that CBOR doesn't store, and what refuses it.
-const UNSTORED: u128 = 1 << 64;
-
-const REFUSED: &str = "The number can't be stored in CBOR";
+/// A number that CBOR doesn't store.
+const GREAT: u128 = 1 << 64;
 
 #[test]
 fn makes_a_tuple_variant(rt: HostRuntime) -> Done {
@@ -42,9 +39,7 @@ fn makes_a_map(rt: HostRuntime) -> Done {
     let mut map = SerializeMap::new(alloc);
     map.serialize_key(&1u8)?;
     map.serialize_value(&2u8)?;
-    let bytes = to_vec(alloc, &map.end()?)?;
-    assert!(rt; bytes.as_slice() == b"\xa1\x01\x02".as_slice());
-    Ok(())
+    is_written(&rt, alloc, &map.end()?, b"\xa1\x01\x02")
 }
 
 #[test]
@@ -52,7 +47,7 @@ fn holds_the_items_before_a_refused_one(rt: HostRuntime) -> Done {
     let alloc = rt.alloc();
     let mut list = SerializeVec::new(alloc);
     list.serialize_element(&1u8)?;
-    is_refused(list.serialize_element(&UNSTORED), REFUSED)?;
+    is_refused(list.serialize_element(&GREAT), UNSTORED)?;
     list.serialize_field(&2u8)?;
     assert!(rt; list.end()? == to_value(alloc, &(1u8, 2u8))?);
     Ok(())
@@ -62,34 +57,34 @@ fn holds_the_items_before_a_refused_one(rt: HostRuntime) -> Done {
 fn holds_the_key_of_a_refused_value(rt: HostRuntime) -> Done {
     let alloc = rt.alloc();
     let mut map = SerializeMap::new(alloc);
-    let Err(refused) = map.serialize_key(&UNSTORED) else {
+    let Err(refused) = map.serialize_key(&GREAT) else {
         return Err(Fail::from("not refused"));
     };
-    is_refused::<()>(Err(refused), REFUSED)?;
+    is_refused::<()>(Err(refused), UNSTORED)?;
     map.serialize_key(&1u8)?;
-    let Err(refused) = map.serialize_value(&UNSTORED) else {
+    let Err(refused) = map.serialize_value(&GREAT) else {
         return Err(Fail::from("not refused"));
     };
-    is_refused::<()>(Err(refused), REFUSED)?;
+    is_refused::<()>(Err(refused), UNSTORED)?;
     map.serialize_value(&2u8)?;
-    is_refused(map.serialize_field("a", &UNSTORED), REFUSED)?;
-    let bytes = to_vec(alloc, &map.end()?)?;
-    assert!(rt; bytes.as_slice() == b"\xa1\x01\x02".as_slice());
-    Ok(())
+    is_refused(map.serialize_field("a", &GREAT), UNSTORED)?;
+    is_written(&rt, alloc, &map.end()?, b"\xa1\x01\x02")
 }
 
 #[test]
 fn holds_the_parts_before_a_refused_one(rt: HostRuntime) -> Done {
     let alloc = rt.alloc();
     let mut flag = SerializeTupleVariant::new(alloc, "A");
-    is_refused(flag.serialize_field(&UNSTORED), REFUSED)?;
+    is_refused(flag.serialize_field(&GREAT), UNSTORED)?;
     flag.serialize_field(&true)?;
-    let bytes = to_vec(alloc, &flag.end()?)?;
-    assert!(rt; bytes.as_slice() == b"\xa1\x61A\x81\xf5".as_slice());
+    is_written(&rt, alloc, &flag.end()?, b"\xa1\x61A\x81\xf5")
+}
+
+#[test]
+fn holds_the_fields_before_a_refused_one(rt: HostRuntime) -> Done {
+    let alloc = rt.alloc();
     let mut point = SerializeStructVariant::new(alloc, "B");
-    is_refused(point.serialize_field("x", &UNSTORED), REFUSED)?;
+    is_refused(point.serialize_field("x", &GREAT), UNSTORED)?;
     point.serialize_field("y", &Value::Null)?;
-    let bytes = to_vec(alloc, &point.end()?)?;
-    assert!(rt; bytes.as_slice() == b"\xa1\x61B\xa1\x61y\xf6".as_slice());
-    Ok(())
+    is_written(&rt, alloc, &point.end()?, b"\xa1\x61B\xa1\x61y\xf6")
 }

@@ -2,9 +2,10 @@
 
 ghost use Rattle.std.specs.Prelude.{codes};
 
+use crate::checks::is_written;
+use serde_cbor::Result;
 use serde_cbor::parts::Schema;
 use serde_cbor::ser::{Serialize, Serializer, Write, WrittenBy, to_vec_packed};
-use serde_cbor::{Result, to_vec};
 use test_checks::Done;
 
 /// What a sensor measured.
@@ -59,12 +60,9 @@ fn writes_floats_in_fields(rt: HostRuntime) -> Done {
     };
     let named = b"\xa3\x67celsius\xfb\xc0\x10\x66\x66\x66\x66\x66\x66\x68humidity\xfa\x47\xc3\x50\0\
 \x68spectrum\x81\xfb\x40\x35\x80\0\0\0\0\0";
-    assert_eq!(rt; to_vec(alloc, &reading)?.as_slice(), named.as_slice());
+    is_written(&rt, alloc, &reading, named)?;
     let packed = b"\xa3\0\xfb\xc0\x10\x66\x66\x66\x66\x66\x66\x01\xfa\x47\xc3\x50\0\
 \x02\x81\xfb\x40\x35\x80\0\0\0\0\0";
-    assert_eq!(rt;
-        to_vec_packed(alloc, &reading)?.as_slice(),
-        packed.as_slice()
-    );
+    assert!(rt; to_vec_packed(alloc, &reading)?.as_slice() == packed.as_slice());
     Ok(())
 }

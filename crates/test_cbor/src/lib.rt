@@ -7,6 +7,8 @@
 #[cfg(test)]
 mod builders;
 #[cfg(test)]
+mod checks;
+#[cfg(test)]
 mod counter;
 #[cfg(test)]
 mod floats;

@@ -8,7 +8,9 @@ ghost use Rattle.test_cbor.specs.Lookup.{HasText, IsText, IsUnder};
 use serde_cbor::{Value, from_slice};
 use std::alloc::{AllocError, Global};
 #[cfg(test)]
-use std::test::Fail;
+use std::process::Abort;
+#[cfg(test)]
+use test_checks::Done;
 
 /// The text under a key, where the bytes encode a map that has a text there; else `None`.
 pub fn text_under(alloc: Global, bytes: &[u8], key: &str) -> serde_cbor::Result<Option<String>>
@@ -50,15 +52,25 @@ fn text_of(value: &Value) -> Result<Option<String>, AllocError>
     }
 }
 
+/// This text is under the key, or none.
+#[cfg(test)]
+fn has_under(rt: &impl Abort, alloc: Global, bytes: &[u8], key: &str, text: Option<&str>) -> Done {
+    let found = text_under(alloc, bytes, key)?;
+    assert!(rt; found.as_ref().map(String::as_str) == text);
+    Ok(())
+}
+
 // {"b": "x", "a": 1}, and what is no map.
 #[test]
-fn finds_the_text_under_a_key(rt: HostRuntime) -> Result<(), Fail> {
-    let alloc = rt.alloc();
-    let bytes = b"\xa2\x61b\x61x\x61a\x01";
-    let found = text_under(alloc, bytes, "b")?;
-    assert!(rt; matches!(&found, Some(text) if text.as_str() == "x"));
-    assert!(rt; text_under(alloc, bytes, "a")?.is_none());
-    assert!(rt; text_under(alloc, bytes, "c")?.is_none());
-    assert!(rt; text_under(alloc, b"\x61b", "b")?.is_none());
+fn finds_the_text_under_a_key(rt: HostRuntime) -> Done {
+    let map = b"\xa2\x61b\x61x\x61a\x01".as_slice();
+    for (bytes, key, text) in [
+        (map, "b", Some("x")),
+        (map, "a", None),
+        (map, "c", None),
+        (b"\x61b", "b", None),
+    ] {
+        has_under(&rt, rt.alloc(), bytes, key, text)?;
+    }
     Ok(())
 }

@@ -19,30 +19,38 @@ fn next_item(rt: &impl Abort, stream: &mut Stream<'_>, end: usize) -> Result<Val
     Ok(item)
 }
 
-/// The next item is this message.
-fn gives(rt: &impl Abort, alloc: Global, stream: &mut Stream<'_>, end: usize, want: u8) -> Done {
-    let message: u8 = from_value(alloc, next_item(rt, stream, end)?)?;
-    assert!(rt; message == want);
+/// The next item is this message, or none.
+fn gives(
+    rt: &impl Abort,
+    alloc: Global,
+    stream: &mut Stream<'_>,
+    end: usize,
+    message: Option<u8>,
+) -> Done {
+    let answer = from_value::<u8>(alloc, next_item(rt, stream, end)?);
+    match message {
+        Some(number) => {
+            assert!(rt; answer? == number);
+            Ok(())
+        }
+        None => is_refused(answer, "invalid type: expected an integer"),
+    }
+}
+
+/// The stream ends with this refusal.
+fn ends(rt: &impl Abort, stream: &mut Stream<'_>, words: &str) -> Done {
+    is_refused(stream.next().ok_or("none")?, words)?;
+    assert!(rt; stream.next().is_none());
     Ok(())
 }
 
-/// The next item is no such message.
-fn gives_another(rt: &impl Abort, alloc: Global, stream: &mut Stream<'_>, end: usize) -> Done {
-    let answer = from_value::<u8>(alloc, next_item(rt, stream, end)?);
-    is_refused(answer, "invalid type: expected an integer")
-}
-
+// 1, then ["a"] and "b", then 42, and a break that no item begins with; and where each ends.
 #[test]
 fn goes_on_after_another_type(rt: HostRuntime) -> Done {
-    let alloc = rt.alloc();
-    // 1, then ["a"] and "b", then 42, and a break that no item begins with.
     let bytes = b"\x01\x81\x61a\x61b\x18\x2a\xff";
-    let mut stream = Deserializer::from_slice(alloc, bytes).into_iter();
-    gives(&rt, alloc, &mut stream, 1, 1)?;
-    gives_another(&rt, alloc, &mut stream, 4)?;
-    gives_another(&rt, alloc, &mut stream, 6)?;
-    gives(&rt, alloc, &mut stream, 8, 42)?;
-    is_refused(stream.next().ok_or("none")?, "unexpected code at offset 9")?;
-    assert!(&rt; stream.next().is_none());
-    Ok(())
+    let mut stream = Deserializer::from_slice(rt.alloc(), bytes).into_iter();
+    for (end, message) in [(1, Some(1)), (4, None), (6, None), (8, Some(42))] {
+        gives(&rt, rt.alloc(), &mut stream, end, message)?;
+    }
+    ends(&rt, &mut stream, "unexpected code at offset 9")
 }

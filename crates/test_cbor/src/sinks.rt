@@ -3,8 +3,8 @@
 use crate::counter::Counter;
 use samples::enums::{Bar, Color};
 use samples::structs::{Mascot, User};
-use serde_cbor::ser::{IoWrite, Serialize, SliceWrite, to_vec_packed};
-use serde_cbor::{Serializer, to_vec, to_writer};
+use serde_cbor::ser::{IoWrite, Serialize, SliceWrite, Write};
+use serde_cbor::{Serializer, to_writer};
 use std::alloc::{AllocError, Global};
 use std::collections::BTreeMap;
 use std::io;
@@ -62,22 +62,21 @@ fn counts_a_field_that_is_left_out(rt: HostRuntime) -> Result<(), Fail> {
     let alloc = rt.alloc();
     let mut ser = Serializer::new(alloc, Vec::new(alloc)).packed_format();
     write_without_second(&mut ser)?;
-    let bytes = ser.into_inner();
-    assert_eq!(rt;
-        bytes.as_slice(),
-        b"\xa2\0\x6cGrace Hopper\x02\x72computer scientist".as_slice()
-    );
+    let want = b"\xa2\0\x6cGrace Hopper\x02\x72computer scientist".as_slice();
+    assert!(rt; ser.into_inner().as_slice() == want);
     Ok(())
 }
 
-fn user() -> User {
-    User {
+const USER: &[u8] = b"\xa2\x67user_id\x18\x2a\x6dpassword_hash\x84\x01\x02\x03\x04";
+
+/// Writes the struct whose bytes these are to a sink.
+fn write_user<W: Write>(alloc: Global, sink: &mut W) -> serde_cbor::Result<()> {
+    let user = User {
         user_id: 42,
         password_hash: [1, 2, 3, 4],
-    }
+    };
+    to_writer(alloc, sink, &user)
 }
-
-const USER: &[u8] = b"\xa2\x67user_id\x18\x2a\x6dpassword_hash\x84\x01\x02\x03\x04";
 
 // Into slices that are too short: the bytes written are a prefix of the whole.
 #[test]
@@ -99,7 +98,7 @@ fn fills_slice(rt: &impl Abort, alloc: Global, len: usize) -> Result<usize, Fail
     let mut room = [0; 30];
     assert!(rt; len <= room.len());
     let mut sink = SliceWrite::new(&mut room[..len]);
-    let Err(error) = to_writer(alloc, &mut sink, &user()) else {
+    let Err(error) = write_user(alloc, &mut sink) else {
         panic!(rt; "not refused");
     };
     if error.is_memory() {
@@ -140,8 +139,10 @@ fn reports_a_writer_that_takes_nothing(rt: HostRuntime) -> Done {
 /// of the struct's.
 fn fails_after(rt: &impl Abort, alloc: Global, at_once: usize, left: usize, count: usize) -> Done {
     let mut writer = FailingWriter::new(alloc, at_once, left)?;
-    let done = to_writer(alloc, &mut IoWrite::new(&mut writer), &user());
-    is_refused(done, "I/O error")?;
+    is_refused(
+        write_user(alloc, &mut IoWrite::new(&mut writer)),
+        "I/O error",
+    )?;
     assert!(rt; writer.taken.len() == count);
     assert!(rt; USER.starts_with(&writer.taken));
     Ok(())
@@ -151,38 +152,44 @@ fn fails_after(rt: &impl Abort, alloc: Global, at_once: usize, left: usize, coun
 fn goes_on_by_a_byte_a_call(rt: HostRuntime) -> Done {
     let alloc = rt.alloc();
     let mut writer = FailingWriter::new(alloc, 1, 30)?;
-    to_writer(alloc, &mut IoWrite::new(&mut writer), &user())?;
+    write_user(alloc, &mut IoWrite::new(&mut writer))?;
     assert!(rt; writer.taken.as_slice() == USER);
     Ok(())
 }
 
-fn ferris(alloc: Global) -> Result<Mascot, Fail> {
-    Ok(Mascot {
+const FERRIS: &[u8] = b"\xa3\x64name\x66Ferris\x67species\x64crab\x6dyear_of_birth\x19\x07\xdf";
+
+/// Writes the struct whose bytes these are to a sink.
+fn write_ferris<W: Write>(alloc: Global, sink: &mut W) -> Done {
+    let ferris = Mascot {
         name: "Ferris".to_owned(alloc)?,
         species: "crab".to_owned(alloc)?,
         year_of_birth: 2015,
-    })
+    };
+    to_writer(alloc, sink, &ferris)?;
+    Ok(())
 }
 
-const FERRIS: &[u8] = b"\xa3\x64name\x66Ferris\x67species\x64crab\x6dyear_of_birth\x19\x07\xdf";
+/// Writes its year.
+fn write_year<W: Write>(alloc: Global, sink: &mut W) -> serde_cbor::Result<()> {
+    to_writer(alloc, sink, &2015u32)
+}
 
 #[test]
 fn appends_a_struct_to_a_vector(rt: HostRuntime) -> Done {
-    let alloc = rt.alloc();
-    let mut bytes = vec![in alloc; 0xf6]?;
-    to_writer(alloc, &mut bytes, &ferris(alloc)?)?;
-    assert_eq!(rt; bytes[0], 0xf6);
-    assert_eq!(rt; &bytes[1..], FERRIS);
+    let mut bytes = vec![in rt.alloc(); 0xf6]?;
+    write_ferris(rt.alloc(), &mut bytes)?;
+    assert!(rt; bytes.first() == Some(&0xf6));
+    assert!(rt; bytes.get(1..) == Some(FERRIS));
     Ok(())
 }
 
 #[test]
 fn writes_a_struct_to_a_slice(rt: HostRuntime) -> Done {
-    let alloc = rt.alloc();
     let mut room = [0; 64];
     let mut sink = SliceWrite::new(&mut room);
-    to_writer(alloc, &mut sink, &ferris(alloc)?)?;
-    assert_eq!(rt; sink.bytes_written(), FERRIS.len());
+    write_ferris(rt.alloc(), &mut sink)?;
+    assert!(rt; sink.bytes_written() == FERRIS.len());
     assert!(rt; room.starts_with(FERRIS));
     Ok(())
 }
@@ -190,12 +197,11 @@ fn writes_a_struct_to_a_slice(rt: HostRuntime) -> Done {
 #[test]
 fn writes_a_struct_to_a_writer(rt: HostRuntime) -> Done {
     let alloc = rt.alloc();
-    let mascot = ferris(alloc)?;
     let mut file = FailingWriter::new(alloc, 64, 100)?;
     {
         let mut sink = IoWrite::new(&mut file);
-        to_writer(alloc, &mut sink, &mascot)?;
-        to_writer(alloc, &mut sink, &mascot.year_of_birth)?;
+        write_ferris(alloc, &mut sink)?;
+        write_year(alloc, &mut sink)?;
     }
     is_ferris_and_2015(&rt, &file.taken);
     Ok(())
@@ -203,7 +209,7 @@ fn writes_a_struct_to_a_writer(rt: HostRuntime) -> Done {
 
 /// The bytes are the struct's, and then its year's.
 fn is_ferris_and_2015(rt: &impl Abort, bytes: &[u8]) {
-    assert_eq!(rt; bytes.len(), FERRIS.len() + 3);
+    assert!(rt; bytes.len() == FERRIS.len() + 3);
     assert!(rt; bytes.starts_with(FERRIS));
     assert!(rt; bytes.ends_with(b"\x19\x07\xdf"));
 }
@@ -211,11 +217,10 @@ fn is_ferris_and_2015(rt: &impl Abort, bytes: &[u8]) {
 #[test]
 fn counts_the_bytes_of_a_struct(rt: HostRuntime) -> Done {
     let alloc = rt.alloc();
-    let mascot = ferris(alloc)?;
     let mut counter = Counter { count: 0 };
-    to_writer(alloc, &mut counter, &mascot)?;
-    to_writer(alloc, &mut &mut counter, &mascot.year_of_birth)?;
-    assert_eq!(rt; counter.count, FERRIS.len() + 3);
+    write_ferris(alloc, &mut counter)?;
+    write_year(alloc, &mut &mut counter)?;
+    assert!(rt; counter.count == FERRIS.len() + 3);
     Ok(())
 }
 
@@ -248,11 +253,8 @@ fn writes_indefinite_lengths(rt: HostRuntime) -> Result<(), Fail> {
     write_list(&mut ser)?;
     write_empty_list(&mut ser)?;
     write_map(&mut ser)?;
-    let bytes = ser.into_inner();
-    assert_eq!(rt;
-        bytes.as_slice(),
-        b"\x9f\x01\x02\xff\x9f\xff\xbf\x61a\xf5\xff".as_slice()
-    );
+    let want = b"\x9f\x01\x02\xff\x9f\xff\xbf\x61a\xf5\xff".as_slice();
+    assert!(rt; ser.into_inner().as_slice() == want);
     Ok(())
 }
 
@@ -261,16 +263,20 @@ fn legacy(alloc: Global) -> Serializer<Vec<u8>> {
     Serializer::new(alloc, Vec::new(alloc)).legacy_enums()
 }
 
-/// The value is written so.
-fn is_written<T: Serialize>(
+/// The value is written as the first of these, and packed as the second.
+fn is_written_in_each_form<T: Serialize>(
     rt: &impl Abort,
-    ser: Serializer<Vec<u8>>,
+    alloc: Global,
     value: &T,
-    want: &[u8],
+    (named, packed): (&[u8], &[u8]),
 ) -> Done {
-    let mut ser = ser;
-    value.serialize(&mut ser)?;
-    assert_eq!(rt; ser.into_inner().as_slice(), want);
+    for (mut ser, bytes) in [
+        (legacy(alloc), named),
+        (legacy(alloc).packed_format(), packed),
+    ] {
+        value.serialize(&mut ser)?;
+        assert!(rt; ser.into_inner().as_slice() == bytes);
+    }
     Ok(())
 }
 
@@ -282,18 +288,8 @@ fn writes_enums_within_std_types_in_each_form(rt: HostRuntime) -> Done {
     let mut map: BTreeMap<u8, Option<Bar>> = BTreeMap::new(alloc);
     map.insert(1, Some(Bar::Number(42)))?;
     map.insert(2, None)?;
-    let all = (list, map, [Bar::Empty]);
-    is_written(
-        &rt,
-        legacy(alloc),
-        &all,
-        b"\x83\x82\x82\x65Other\x18\x2a\x83\x65Alpha\x01\x09\
-            \xa2\x01\x82\x66Number\x18\x2a\x02\xf6\x81\x65Empty",
-    )?;
-    is_written(
-        &rt,
-        legacy(alloc).packed_format(),
-        &all,
-        b"\x83\x82\x82\x01\x18\x2a\x83\x03\x01\x09\xa2\x01\x82\x01\x18\x2a\x02\xf6\x81\0",
-    )
+    let named = b"\x83\x82\x82\x65Other\x18\x2a\x83\x65Alpha\x01\x09\
+        \xa2\x01\x82\x66Number\x18\x2a\x02\xf6\x81\x65Empty";
+    let packed = b"\x83\x82\x82\x01\x18\x2a\x83\x03\x01\x09\xa2\x01\x82\x01\x18\x2a\x02\xf6\x81\0";
+    is_written_in_each_form(&rt, alloc, &(list, map, [Bar::Empty]), (named, packed))
 }

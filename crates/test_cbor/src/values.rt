@@ -1,52 +1,45 @@
 //! What values of types stand for and are written as, and what values are read as.
 
+use crate::checks::{UNSTORED, is_written};
+use serde_cbor::Value;
 use serde_cbor::round_trip::write_and_read;
-use serde_cbor::ser::Serialize;
 use serde_cbor::tags::Tagged;
 use serde_cbor::value::{Map, ToValue, from_value, to_value};
-use serde_cbor::{Value, to_vec};
 use std::alloc::{AllocError, Global};
-use std::process::Abort;
 use std::test::Fail;
-use test_checks::is_refused;
-
-type Done = Result<(), Fail>;
-
-const REFUSED: &str = "The number can't be stored in CBOR";
+use test_checks::{Done, is_refused};
 
 #[test]
 fn keeps_a_tag(rt: HostRuntime) -> Done {
     let alloc = rt.alloc();
     let tagged = to_value(alloc, &Tagged::new(Some(1), 5u8))?;
-    let bytes = to_vec(alloc, &tagged)?;
-    assert!(rt; bytes.as_slice() == b"\xc1\x05".as_slice());
+    is_written(&rt, alloc, &tagged, b"\xc1\x05")?;
     let number: u8 = from_value(alloc, tagged.to_value(alloc)?)?;
-    assert_eq!(rt; number, 5);
+    assert!(rt; number == 5);
     let again: Tagged<u8> = from_value(alloc, tagged)?;
-    assert_eq!(rt; again.tag, Some(1));
-    assert_eq!(rt; again.value, 5);
-    Ok(())
-}
-
-/// The value is written as these bytes.
-fn writes<T: Serialize>(rt: &impl Abort, alloc: Global, value: &T, want: &[u8]) -> Done {
-    let bytes = to_vec(alloc, value)?;
-    assert!(rt; bytes.as_slice() == want);
+    assert!(rt; again.tag == Some(1));
+    assert!(rt; again.value == 5);
     Ok(())
 }
 
 #[test]
 fn makes_a_value_within_a_tag(rt: HostRuntime) -> Done {
-    let alloc = rt.alloc();
-    writes(&rt, alloc, &Tagged::new(Some(24), 5u8), b"\xd8\x18\x05")?;
-    writes(&rt, alloc, &Tagged::new(None, 5u8), b"\x05")
+    for (tag, bytes) in [(Some(24), b"\xd8\x18\x05".as_slice()), (None, b"\x05")] {
+        is_written(&rt, rt.alloc(), &Tagged::new(tag, 5u8), bytes)?;
+    }
+    Ok(())
+}
+
+/// What an integer is read as where a float is wanted.
+fn float_of(alloc: Global, number: i128) -> serde_cbor::Result<f64> {
+    from_value(alloc, Value::Integer(number))
 }
 
 #[test]
 fn reads_an_integer_as_a_float(rt: HostRuntime) -> Done {
     let alloc = rt.alloc();
-    assert_eq!(rt; from_value::<f64>(alloc, Value::Integer(-52))?, -52.0);
-    let too_long = from_value::<f64>(alloc, Value::Integer((1 << 53) + 1));
+    assert!(rt; float_of(alloc, -52)? == -52.0);
+    let too_long = float_of(alloc, (1 << 53) + 1);
     is_refused(too_long, "integer out of range: expected f64")
 }
 
@@ -73,9 +66,12 @@ fn reads_again_eight_parts(rt: HostRuntime) -> Done {
 #[test]
 fn refuses_a_number_that_is_not_stored(rt: HostRuntime) -> Done {
     let alloc = rt.alloc();
-    is_refused(to_value(alloc, &(1u128 << 64)), REFUSED)?;
-    is_refused(to_value(alloc, &(1i128 << 64)), REFUSED)?;
-    is_refused(from_value::<Value>(alloc, Value::Integer(1 << 64)), REFUSED)
+    is_refused(to_value(alloc, &(1u128 << 64)), UNSTORED)?;
+    is_refused(to_value(alloc, &(1i128 << 64)), UNSTORED)?;
+    is_refused(
+        from_value::<Value>(alloc, Value::Integer(1 << 64)),
+        UNSTORED,
+    )
 }
 
 /// Null within so many arrays.
@@ -124,8 +120,6 @@ fn orders_keys_that_are_arrays(rt: HostRuntime) -> Done {
         return Err(Fail::from(AllocError));
     };
     let value = to_value(alloc, &Value::Map(map))?;
-    let bytes = to_vec(alloc, &value)?;
-    let want = b"\xa6\x81\0\xf6\x81\x18\x64\xf6\x81\x20\xf6\x81\x21\xf6\x82\0\0\xf6\x82\0\x20\xf6";
-    assert!(rt; bytes.as_slice() == want.as_slice());
-    Ok(())
+    let bytes = b"\xa6\x81\0\xf6\x81\x18\x64\xf6\x81\x20\xf6\x81\x21\xf6\x82\0\0\xf6\x82\0\x20\xf6";
+    is_written(&rt, alloc, &value, bytes)
 }
