@@ -1,9 +1,11 @@
 // Each call at types of std's.
 
+use crate::checks::{is_read, is_refused_at, is_written};
 use cbor_serde::{
-    Options, SliceWrite, Value, from_reader, from_slice, from_slice_canonical, from_slice_with,
-    from_value, to_value, to_vec, to_vec_canonical, to_writer,
+    Options, Result as Answer, SliceWrite, Value, from_reader, from_slice, from_slice_canonical,
+    from_slice_with, from_value, to_value, to_vec, to_vec_canonical, to_writer,
 };
+use std::alloc::Global;
 use std::collections::BTreeMap;
 use test_checks::{Done, is_refused};
 
@@ -11,16 +13,16 @@ use test_checks::{Done, is_refused};
 #[test]
 fn writes_and_reads(rt: HostRuntime) -> Done {
     let alloc = rt.alloc();
-    let bytes = to_vec(alloc, &(1u8, (2u8, 3u8), (4u8, 5u8)))?;
-    assert_eq!(rt;
-        bytes.as_slice(),
-        b"\x83\x01\x82\x02\x03\x82\x04\x05".as_slice()
-    );
-    let read: (u8, (u8, u8), (u8, u8)) = from_slice(alloc, &bytes)?;
-    assert_eq!(rt; read, (1, (2, 3), (4, 5)));
-    let name: &str = from_slice(alloc, b"\x64IETF")?;
-    assert_eq!(rt; name, "IETF");
-    let number: u32 = from_reader(alloc, b"\x1a\x00\x0f\x42\x40".as_slice())?;
+    let nested = (1u8, (2u8, 3u8), (4u8, 5u8));
+    let bytes = b"\x83\x01\x82\x02\x03\x82\x04\x05";
+    is_written(&rt, alloc, &nested, bytes)?;
+    is_read(&rt, alloc, bytes, nested)?;
+    is_read(&rt, alloc, b"\x64IETF", "IETF")
+}
+
+#[test]
+fn reads_from_a_reader(rt: HostRuntime) -> Done {
+    let number: u32 = from_reader(rt.alloc(), b"\x1a\x00\x0f\x42\x40".as_slice())?;
     assert_eq!(rt; number, 1000000);
     Ok(())
 }
@@ -34,10 +36,19 @@ fn writes_canonically(rt: HostRuntime) -> Done {
     map.insert(10, 2)?;
     let bytes = to_vec_canonical(alloc, &map)?;
     assert_eq!(rt; bytes.as_slice(), b"\xa2\x0a\x02\x20\x01".as_slice());
-    let read: BTreeMap<i16, u8> = from_slice_canonical(alloc, &bytes)?;
-    assert_eq!(rt; read.len(), 2);
+    Ok(())
+}
+
+fn canonical(alloc: Global, bytes: &[u8]) -> Answer<BTreeMap<i16, u8>> {
+    from_slice_canonical(alloc, bytes)
+}
+
+#[test]
+fn reads_canonical_bytes_alone(rt: HostRuntime) -> Done {
+    let alloc = rt.alloc();
+    assert_eq!(rt; canonical(alloc, b"\xa2\x0a\x02\x20\x01")?.len(), 2);
     is_refused(
-        from_slice_canonical::<BTreeMap<i16, u8>>(alloc, b"\xa2\x20\x01\x0a\x02"),
+        canonical(alloc, b"\xa2\x20\x01\x0a\x02"),
         "not canonical at offset 4",
     )
 }
@@ -70,41 +81,70 @@ fn makes_and_reads_values(rt: HostRuntime) -> Done {
     Ok(())
 }
 
+fn nested(alloc: Global, levels: u8) -> Answer<((u8,),)> {
+    from_slice_with(Options::new().nesting_limit(levels), alloc, b"\x81\x81\x01")
+}
+
 // [[1]] nests two levels.
 #[test]
 fn counts_levels(rt: HostRuntime) -> Done {
     let alloc = rt.alloc();
+    assert_eq!(rt; nested(alloc, 2)?, ((1,),));
+    is_refused(nested(alloc, 1), "recursion limit exceeded at offset 2")
+}
+
+#[test]
+fn gives_levels_back_between_arrays(rt: HostRuntime) -> Done {
     let two = Options::new().nesting_limit(2);
-    let read: ((u8,),) = from_slice_with(two, alloc, b"\x81\x81\x01")?;
-    assert_eq!(rt; read, ((1,),));
-    let one = Options::new().nesting_limit(1);
-    is_refused(
-        from_slice_with::<((u8,),)>(one, alloc, b"\x81\x81\x01"),
-        "recursion limit exceeded at offset 2",
-    )?;
-    // Arrays beside one another give their levels back.
-    let beside: ((u8,), (u8,)) = from_slice_with(two, alloc, b"\x82\x81\x01\x81\x02")?;
+    let beside: ((u8,), (u8,)) = from_slice_with(two, rt.alloc(), b"\x82\x81\x01\x81\x02")?;
     assert_eq!(rt; beside, ((1,), (2,)));
     Ok(())
 }
 
+#[derive(Clone, Copy)]
+enum As {
+    Number,
+    Text,
+    List,
+}
+
+// Whether the bytes are read as this type.
+fn reads(alloc: Global, bytes: &[u8], of: As) -> Answer<()> {
+    match of {
+        As::Number => {
+            from_slice::<u8>(alloc, bytes)?;
+        }
+        As::Text => {
+            from_slice::<&str>(alloc, bytes)?;
+        }
+        As::List => {
+            from_slice::<Vec<u8>>(alloc, bytes)?;
+        }
+    }
+    Ok(())
+}
+
+const MISFITS: &[(As, &[u8], &str)] = &[
+    (As::Number, b"\x01\x02", "trailing data at offset 2"),
+    (
+        As::Text,
+        b"\x7f\x61a\x61b\xff",
+        "invalid type: expected a borrowed string",
+    ),
+    (
+        As::List,
+        b"\x9b\xff\xff\xff\xff\xff\xff\xff\xff",
+        "EOF while parsing a value at offset 9",
+    ),
+];
+
 #[test]
 fn refuses_what_does_not_fit(rt: HostRuntime) -> Done {
-    let alloc = rt.alloc();
+    for (row, (of, bytes, words)) in MISFITS.iter().enumerate() {
+        is_refused_at(row, reads(rt.alloc(), bytes, *of), words)?;
+    }
     is_refused(
-        to_vec(alloc, &(1i128 << 64)),
+        to_vec(rt.alloc(), &(1i128 << 64)),
         "The number can't be stored in CBOR",
-    )?;
-    is_refused(
-        from_slice::<u8>(alloc, b"\x01\x02"),
-        "trailing data at offset 2",
-    )?;
-    is_refused(
-        from_slice::<&str>(alloc, b"\x7f\x61a\x61b\xff"),
-        "invalid type: expected a borrowed string",
-    )?;
-    is_refused(
-        from_slice::<Vec<u8>>(alloc, b"\x9b\xff\xff\xff\xff\xff\xff\xff\xff"),
-        "EOF while parsing a value at offset 9",
     )
 }

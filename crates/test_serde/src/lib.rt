@@ -9,6 +9,8 @@ mod byte_strings;
 #[cfg(test)]
 mod calls;
 #[cfg(test)]
+mod checks;
+#[cfg(test)]
 mod devices;
 #[cfg(test)]
 mod floats;

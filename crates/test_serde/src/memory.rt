@@ -1,6 +1,7 @@
 // Types that derive, where each allocation may be refused, and what is read without memory
 // (.ci/growths).
 
+use crate::checks::is_read;
 use cbor_serde::bytes::Bytes;
 use cbor_serde::{Options, SliceWrite, from_slice, to_vec_with, to_writer};
 use derived_types::{Answer, Event, Folder, Note, Shape};
@@ -108,18 +109,6 @@ fn leaves_a_sink_as_it_was(rt: HostRuntime) -> Done {
     is_refused(answer, "The number can't be stored in CBOR")
 }
 
-// The bytes are read as this.
-fn is_read<'a, T: Deserialize<'a> + PartialEq>(
-    rt: &impl Abort,
-    alloc: Global,
-    bytes: &'a [u8],
-    expected: T,
-) -> Done {
-    let value: T = from_slice(alloc, bytes)?;
-    assert!(rt; value == expected);
-    Ok(())
-}
-
 // RFC 7049, Appendix A: true, null, "ü" and 1(1363896240).
 #[test]
 fn reads_plain_items_without_memory(rt: HostRuntime) -> Done {
@@ -155,17 +144,23 @@ fn reads_integers_without_memory(rt: HostRuntime) -> Done {
 fn reads_floats_without_memory(rt: HostRuntime) -> Done {
     let alloc = rt.alloc();
     is_read(&rt, alloc, b"\xf9\x3e\0", 1.5f32)?;
-    is_read(&rt, alloc, b"\xfa\x47\xc3\x50\0", 100000.0f64)?;
-    is_read(&rt, alloc, b"\xfb\x3f\xf1\x99\x99\x99\x99\x99\x9a", 1.1f64)?;
-    is_read(&rt, alloc, b"\x01", 1.0f64)
+    for (bytes, number) in [
+        (b"\xfa\x47\xc3\x50\0".as_slice(), 100000.0),
+        (b"\xfb\x3f\xf1\x99\x99\x99\x99\x99\x9a", 1.1),
+        (b"\x01", 1.0),
+    ] {
+        is_read::<f64>(&rt, alloc, bytes, number)?;
+    }
+    Ok(())
 }
 
 // The second has a head of two bytes.
 #[test]
 fn reads_lent_strings_without_memory(rt: HostRuntime) -> Done {
     let alloc = rt.alloc();
-    is_read(&rt, alloc, b"\x64IETF", "IETF")?;
-    is_read(&rt, alloc, b"\x78\x04IETF", "IETF")?;
+    for bytes in [b"\x64IETF".as_slice(), b"\x78\x04IETF"] {
+        is_read(&rt, alloc, bytes, "IETF")?;
+    }
     is_read(
         &rt,
         alloc,
@@ -177,8 +172,9 @@ fn reads_lent_strings_without_memory(rt: HostRuntime) -> Done {
 #[test]
 fn reads_options_without_memory(rt: HostRuntime) -> Done {
     let alloc = rt.alloc();
-    is_read(&rt, alloc, b"\xf6", None::<&str>)?;
-    is_read(&rt, alloc, b"\x64IETF", Some("IETF"))?;
+    for (bytes, text) in [(b"\xf6".as_slice(), None), (b"\x64IETF", Some("IETF"))] {
+        is_read::<Option<&str>>(&rt, alloc, bytes, text)?;
+    }
     is_read(&rt, alloc, b"\x18\x18", Some(24u8))?;
     is_read(&rt, alloc, b"\xf4", Some(false))
 }

@@ -40,8 +40,8 @@ fn asks_for(rt: &impl Abort, alloc: Global, item: &[u8]) -> Done {
         let mut items = Stream::<_, Item>::new(alloc, &mut peer);
         items.next().ok_or("none")??;
         drop(items);
-        assert!(rt; peer.given == item.len());
-        assert!(rt; peer.calls <= item.len());
+        assert!(rt; peer.given == item.len(), "{item:?}, {at_once} at once");
+        assert!(rt; peer.calls <= item.len(), "{item:?}, {at_once} at once");
     }
     Ok(())
 }

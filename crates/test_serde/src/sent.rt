@@ -1,153 +1,120 @@
 // What types of one's own send.
 
+use crate::checks::{is_refused_at, is_written};
 use cbor_serde::to_vec;
 use serde::{Described, Serialize, Serializer};
 use test_checks::{Done, is_refused};
 
-// Declares so many items of an array, sends so many, and may leave it open.
+// What a type sends of itself.
 #[derive(Clone, Copy)]
-struct Items {
-    declared: Option<usize>,
-    sent: usize,
-    closes: bool,
+enum Call {
+    True,
+    Array(Option<usize>),
+    EndArray,
+    Map(Option<usize>),
+    Key(&'static str),
+    EndMap,
+    /// A number that is printed, as a text.
+    Printed(u8),
+    /// A number, and what comes of it is passed over.
+    TriesNumber(u128),
+    /// An array's end, and what comes of it is passed over.
+    TriesEndArray,
 }
 
-impl Described for Items {}
-
-impl Serialize for Items {
-    fn serialize<S: Serializer>(&self, out: &mut S) -> Result<(), S::Error> {
-        out.begin_seq(self.declared)?;
-        for _ in 0..self.sent {
-            out.bool(true)?;
+fn send<S: Serializer>(call: Call, out: &mut S) -> Result<(), S::Error> {
+    match call {
+        Call::True => out.bool(true),
+        Call::Array(len) => out.begin_seq(len),
+        Call::EndArray => out.end_seq(),
+        Call::Map(len) => out.begin_map(len),
+        Call::Key(name) => out.key(name),
+        Call::EndMap => out.end_map(),
+        Call::Printed(number) => out.collect_str(&number),
+        Call::TriesNumber(number) => {
+            let _ = out.u128(number);
+            Ok(())
         }
-        if self.closes {
-            out.end_seq()?;
+        Call::TriesEndArray => {
+            let _ = out.end_seq();
+            Ok(())
+        }
+    }
+}
+
+// It sends these, up to the first that is refused.
+#[derive(Clone, Copy)]
+struct Script(&'static [Call]);
+
+impl Described for Script {}
+
+impl Serialize for Script {
+    fn serialize<S: Serializer>(&self, out: &mut S) -> Result<(), S::Error> {
+        for call in self.0 {
+            send(*call, out)?;
         }
         Ok(())
     }
 }
 
+// An array of a declared length, one without, and a text that is printed.
+const SENT: &[(&[Call], &[u8])] = &[
+    (
+        &[Call::Array(Some(1)), Call::True, Call::EndArray],
+        b"\x81\xf5",
+    ),
+    (
+        &[Call::Array(None), Call::True, Call::EndArray],
+        b"\x9f\xf5\xff",
+    ),
+    (&[Call::Printed(42)], b"\x6242"),
+];
+
 #[test]
-fn counts_what_is_sent(rt: HostRuntime) -> Done {
-    let alloc = rt.alloc();
-    let declared = Items {
-        declared: Some(1),
-        sent: 1,
-        closes: true,
-    };
-    assert_eq!(rt;
-        to_vec(alloc, &declared)?.as_slice(),
-        b"\x81\xf5".as_slice()
-    );
-    let open = Items {
-        declared: None,
-        sent: 1,
-        closes: true,
-    };
-    assert_eq!(rt;
-        to_vec(alloc, &open)?.as_slice(),
-        b"\x9f\xf5\xff".as_slice()
-    );
+fn writes_what_is_sent(rt: HostRuntime) -> Done {
+    for (calls, bytes) in SENT {
+        is_written(&rt, rt.alloc(), &Script(*calls), bytes)?;
+    }
     Ok(())
 }
 
-#[test]
-fn refuses_another_count(rt: HostRuntime) -> Done {
-    let alloc = rt.alloc();
-    let many = Items {
-        declared: Some(1),
-        sent: 2,
-        closes: true,
-    };
-    is_refused(
-        to_vec(alloc, &many),
-        "more items than the length that was declared",
-    )?;
-    let few = Items {
-        declared: Some(2),
-        sent: 1,
-        closes: true,
-    };
-    is_refused(
-        to_vec(alloc, &few),
-        "fewer items than the length that was declared",
-    )?;
-    let unclosed = Items {
-        declared: Some(1),
-        sent: 1,
-        closes: false,
-    };
-    is_refused(to_vec(alloc, &unclosed), "no whole item was written")
-}
+const MORE: &str = "more items than the length that was declared";
 
-// A map's key without its value.
-#[derive(Clone, Copy)]
-struct Key;
+const FEWER: &str = "fewer items than the length that was declared";
 
-impl Described for Key {}
-
-impl Serialize for Key {
-    fn serialize<S: Serializer>(&self, out: &mut S) -> Result<(), S::Error> {
-        out.begin_map(None)?;
-        out.key("a")?;
-        out.end_map()
-    }
-}
-
-// Two items, and none.
-#[derive(Clone, Copy)]
-struct Twice;
-
-impl Described for Twice {}
-
-impl Serialize for Twice {
-    fn serialize<S: Serializer>(&self, out: &mut S) -> Result<(), S::Error> {
-        out.bool(true)?;
-        out.bool(true)
-    }
-}
-
-#[derive(Clone, Copy)]
-struct Never;
-
-impl Described for Never {}
-
-impl Serialize for Never {
-    fn serialize<S: Serializer>(&self, _out: &mut S) -> Result<(), S::Error> {
-        Ok(())
-    }
-}
+// Of arrays an item too many and one too few, and one that is left open; of a map a key without its
+// value; two items, and none; and what goes on after a number that is refused, and after the end
+// of an array that lacks its item, of which nothing is left open.
+const REFUSED: &[(&[Call], &str)] = &[
+    (
+        &[Call::Array(Some(1)), Call::True, Call::True, Call::EndArray],
+        MORE,
+    ),
+    (&[Call::Array(Some(2)), Call::True, Call::EndArray], FEWER),
+    (
+        &[Call::Array(Some(1)), Call::True],
+        "no whole item was written",
+    ),
+    (&[Call::Map(None), Call::Key("a"), Call::EndMap], FEWER),
+    (&[Call::True, Call::True], MORE),
+    (&[], "no whole item was written"),
+    (&[Call::TriesNumber(1 << 64), Call::True], MORE),
+    (
+        &[
+            Call::Array(Some(1)),
+            Call::TriesEndArray,
+            Call::True,
+            Call::EndArray,
+        ],
+        "a step was refused",
+    ),
+];
 
 #[test]
-fn wants_one_item(rt: HostRuntime) -> Done {
-    let alloc = rt.alloc();
-    is_refused(
-        to_vec(alloc, &Key),
-        "fewer items than the length that was declared",
-    )?;
-    is_refused(
-        to_vec(alloc, &Twice),
-        "more items than the length that was declared",
-    )?;
-    is_refused(to_vec(alloc, &Never), "no whole item was written")
-}
-
-// A text that is printed.
-#[derive(Clone, Copy)]
-struct Printed(u8);
-
-impl Described for Printed {}
-
-impl Serialize for Printed {
-    fn serialize<S: Serializer>(&self, out: &mut S) -> Result<(), S::Error> {
-        out.collect_str(&self.0)
+fn wants_one_whole_item(rt: HostRuntime) -> Done {
+    for (row, (calls, words)) in REFUSED.iter().enumerate() {
+        is_refused_at(row, to_vec(rt.alloc(), &Script(*calls)), words)?;
     }
-}
-
-#[test]
-fn writes_printed_text(rt: HostRuntime) -> Done {
-    let bytes = to_vec(rt.alloc(), &Printed(42))?;
-    assert_eq!(rt; bytes.as_slice(), b"\x6242".as_slice());
     Ok(())
 }
 
@@ -181,44 +148,4 @@ fn refuses_a_level_too_many(rt: HostRuntime) -> Done {
         to_vec(alloc, &Nest(128)),
         "recursion limit exceeded at offset 128",
     )
-}
-
-// Goes on after a number that is refused.
-#[derive(Clone, Copy)]
-struct Heedless;
-
-impl Described for Heedless {}
-
-impl Serialize for Heedless {
-    fn serialize<S: Serializer>(&self, out: &mut S) -> Result<(), S::Error> {
-        let _ = out.u128(1 << 64);
-        out.bool(true)
-    }
-}
-
-// Of an array that lacks its item nothing is left open.
-#[derive(Clone, Copy)]
-struct Patient;
-
-impl Described for Patient {}
-
-impl Serialize for Patient {
-    fn serialize<S: Serializer>(&self, out: &mut S) -> Result<(), S::Error> {
-        out.begin_seq(Some(1))?;
-        if out.end_seq().is_err() {
-            out.bool(true)?;
-            return out.end_seq();
-        }
-        Ok(())
-    }
-}
-
-#[test]
-fn writes_nothing_after_a_refused_step(rt: HostRuntime) -> Done {
-    let alloc = rt.alloc();
-    is_refused(
-        to_vec(alloc, &Heedless),
-        "more items than the length that was declared",
-    )?;
-    is_refused(to_vec(alloc, &Patient), "a step was refused")
 }
