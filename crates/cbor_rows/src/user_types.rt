@@ -13,9 +13,9 @@ use row_types::labels::{Claims, Headers, PublicKey, SymmetricKey};
 use row_types::letters::{EnumStruct, Letter, ReprEnumStruct};
 use row_types::structs::{Brief, NewtypeStruct, OptionalPerson, UnitStruct};
 use row_types::weather::Weather;
-use samples::enums::{Bar, Color};
+use samples::enums::{Color, EachKind};
 use samples::nested::{Example, Foo};
-use samples::structs::{Mascot, Person, SmallStruct, User};
+use samples::structs::{Credentials, Mascot, Person, SmallStruct};
 use samples::tree::Tree;
 use serde_cbor::Deserializer;
 use serde_cbor::bytes::ByteBuf;
@@ -30,7 +30,7 @@ pub fn judge<'r, R: Read<'r> + Drop>(
     de: Deserializer<R>,
 ) -> io::Result<bool> {
     match row.kind {
-        "User" => desk.reads::<User, R>(row, de)?,
+        "Credentials" => desk.reads::<Credentials, R>(row, de)?,
         "SmallStruct" => desk.reads::<SmallStruct, R>(row, de)?,
         "Brief" => desk.reads::<Brief, R>(row, de)?,
         "NewtypeStruct<bool>" => desk.reads::<NewtypeStruct<bool>, R>(row, de)?,
@@ -55,7 +55,7 @@ fn enums<'r, R: Read<'r> + Drop>(
     match row.kind {
         "Choice" => desk.reads::<Choice, R>(row, de)?,
         "Color" => desk.reads::<Color, R>(row, de)?,
-        "Bar" => desk.reads::<Bar, R>(row, de)?,
+        "EachKind" => desk.reads::<EachKind, R>(row, de)?,
         "DataEnum" => desk.reads::<DataEnum, R>(row, de)?,
         "TwoVariants" => desk.reads::<TwoVariants, R>(row, de)?,
         _ => return lists_of_enums(desk, row, de),

@@ -83,7 +83,7 @@ impl DeserializeOwned for Color {
 
 /// An enum with variants of each kind.
 #[derive(Debug, Drop)]
-pub enum Bar {
+pub enum EachKind {
     Empty,
     Number(i64),
     Flag(String, bool),
@@ -91,7 +91,7 @@ pub enum Bar {
 }
 
 /// The names of its variants.
-const BAR: &[&str] = &["Empty", "Number", "Flag", "Point"];
+const EACH_KIND: &[&str] = &["Empty", "Number", "Flag", "Point"];
 
 /// The named fields of its last variant.
 #[derive(Drop)]
@@ -112,16 +112,16 @@ impl FieldNames for PointFields {
     }
 }
 
-impl Schema for Bar {
+impl Schema for EachKind {
     ghost use Rattle.std.specs.Prelude.{map};
     ghost use Rattle.serde_cbor.specs.Schemas.{newtype, tuple, structure};
     ghost use Rattle.serde_cbor.specs.OneOf4 as one_of;
-    ghost use Rattle.samples.specs.declared.enums.Bar.TheVariants as at;
-    ghost use Rattle.samples.specs.declared.enums.TheConstants.{BAR};
+    ghost use Rattle.samples.specs.declared.enums.EachKind.TheVariants as at;
+    ghost use Rattle.samples.specs.declared.enums.TheConstants.{EACH_KIND};
 
     type Parts = OneOf4<(), Newtype<i64>, Tuple<(String, bool)>, Struct<PointFields>>;
 
-    ghost names = { map (λ n. n.now) BAR.now };
+    ghost names = { map (λ n. n.now) EACH_KIND.now };
 
     ghost parts = { elim [
       | at.Empty ↦ one_of.first tt
@@ -131,34 +131,34 @@ impl Schema for Bar {
     ] };
 
     fn names() -> &'static [&'static str] {
-        BAR
+        EACH_KIND
     }
 
-    fn from_parts(from: Self::Parts) -> Bar {
+    fn from_parts(from: Self::Parts) -> EachKind {
         match from {
-            OneOf4::First(()) => Bar::Empty,
-            OneOf4::Second(Newtype(n)) => Bar::Number(n),
+            OneOf4::First(()) => EachKind::Empty,
+            OneOf4::Second(Newtype(n)) => EachKind::Number(n),
             OneOf4::Third(Tuple(parts)) => {
                 let (a, b) = parts;
-                Bar::Flag(a, b)
+                EachKind::Flag(a, b)
             }
             OneOf4::Fourth(Struct(point)) => {
                 let (x, y) = point;
-                Bar::Point { x, y }
+                EachKind::Point { x, y }
             }
         }
     }
 }
 
-impl Serialize for Bar {
+impl Serialize for EachKind {
     ghost document = { ⟦<Self as WrittenBy<<Self as Schema>::Parts>>⟧.document };
 
     fn serialize<W: Write>(&self, ser: &mut Serializer<W>) -> Result<()> {
         match self {
-            Bar::Empty => ser.serialize_variant(self, 0, &()),
-            Bar::Number(n) => ser.serialize_variant(self, 1, &Newtype(n)),
-            Bar::Flag(a, b) => ser.serialize_variant(self, 2, &Tuple((a, b))),
-            Bar::Point { x, y } => ser.serialize_variant(
+            EachKind::Empty => ser.serialize_variant(self, 0, &()),
+            EachKind::Number(n) => ser.serialize_variant(self, 1, &Newtype(n)),
+            EachKind::Flag(a, b) => ser.serialize_variant(self, 2, &Tuple((a, b))),
+            EachKind::Point { x, y } => ser.serialize_variant(
                 self,
                 3,
                 &NamedFields(PointFields, (x, y)),
@@ -167,18 +167,18 @@ impl Serialize for Bar {
     }
 }
 
-impl Readable for Bar {
+impl Readable for EachKind {
     ghost reads = { ⟦<Self as ReadBy<<Self as Schema>::Parts>>⟧.reads };
 
     ghost wrong_forms = { ⟦<Self as ReadBy<<Self as Schema>::Parts>>⟧.wrong_forms };
 }
 
-impl<'de, R: Read<'de>> Deserialize<'de, R> for Bar {
-    fn deserialize(de: &mut Deserializer<R>) -> Result<Bar> {
+impl<'de, R: Read<'de>> Deserialize<'de, R> for EachKind {
+    fn deserialize(de: &mut Deserializer<R>) -> Result<EachKind> {
         read_described(de)
     }
 }
 
-impl DeserializeOwned for Bar {
+impl DeserializeOwned for EachKind {
     ghost same = { λ f a b r v h. h };
 }

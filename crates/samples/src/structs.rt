@@ -7,37 +7,37 @@ use serde_cbor::{Deserializer, Result};
 
 /// A struct of two fields.
 #[derive(Debug, Drop)]
-pub struct User {
+pub struct Credentials {
     pub user_id: u32,
     pub password_hash: [u8; 4],
 }
 
 /// The names of its fields.
-const USER: &[&str] = &["user_id", "password_hash"];
+const CREDENTIALS: &[&str] = &["user_id", "password_hash"];
 
-impl Schema for User {
+impl Schema for Credentials {
     ghost use Rattle.std.specs.Prelude.{map};
-    ghost use Rattle.samples.specs.declared.structs.TheConstants.{USER};
+    ghost use Rattle.samples.specs.declared.structs.TheConstants.{CREDENTIALS};
 
     type Parts = (u32, [u8; 4]);
 
-    ghost names = { map (λ n. n.now) USER.now };
+    ghost names = { map (λ n. n.now) CREDENTIALS.now };
 
-    ghost parts = { λ u. (u.user_id, u.password_hash) };
+    ghost parts = { λ c. (c.user_id, c.password_hash) };
 
     fn names() -> &'static [&'static str] {
-        USER
+        CREDENTIALS
     }
 
-    fn from_parts((user_id, password_hash): Self::Parts) -> User {
-        User {
+    fn from_parts((user_id, password_hash): Self::Parts) -> Credentials {
+        Credentials {
             user_id,
             password_hash,
         }
     }
 }
 
-impl Serialize for User {
+impl Serialize for Credentials {
     ghost document = { ⟦<Self as WrittenBy<<Self as Schema>::Parts>>⟧.document };
 
     fn serialize<W: Write>(&self, ser: &mut Serializer<W>) -> Result<()> {
@@ -45,19 +45,19 @@ impl Serialize for User {
     }
 }
 
-impl Readable for User {
+impl Readable for Credentials {
     ghost reads = { ⟦<Self as ReadBy<<Self as Schema>::Parts>>⟧.reads };
 
     ghost wrong_forms = { ⟦<Self as ReadBy<<Self as Schema>::Parts>>⟧.wrong_forms };
 }
 
-impl<'de, R: Read<'de>> Deserialize<'de, R> for User {
-    fn deserialize(de: &mut Deserializer<R>) -> Result<User> {
+impl<'de, R: Read<'de>> Deserialize<'de, R> for Credentials {
+    fn deserialize(de: &mut Deserializer<R>) -> Result<Credentials> {
         read_described(de)
     }
 }
 
-impl DeserializeOwned for User {
+impl DeserializeOwned for Credentials {
     ghost same = { λ f a b r v h. h };
 }
 

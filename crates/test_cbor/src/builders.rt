@@ -1,7 +1,7 @@
 //! What builders make, by what `to_value` makes of the whole; and what they hold after a refusal.
 
 use crate::checks::{UNSTORED, is_written};
-use samples::enums::Bar;
+use samples::enums::EachKind;
 use serde_cbor::Value;
 use serde_cbor::value::{
     SerializeMap, SerializeStructVariant, SerializeTupleVariant, SerializeVec, to_value,
@@ -18,7 +18,7 @@ fn makes_a_tuple_variant(rt: HostRuntime) -> Done {
     let mut flag = SerializeTupleVariant::new(alloc, "Flag");
     flag.serialize_field(&"foo")?;
     flag.serialize_field(&true)?;
-    let whole = Bar::Flag("foo".to_owned(alloc)?, true);
+    let whole = EachKind::Flag("foo".to_owned(alloc)?, true);
     assert!(rt; flag.end()? == to_value(alloc, &whole)?);
     Ok(())
 }
@@ -29,7 +29,7 @@ fn makes_a_struct_variant(rt: HostRuntime) -> Done {
     let mut point = SerializeStructVariant::new(alloc, "Point");
     point.serialize_field("x", &5i64)?;
     point.serialize_field("y", &-5i64)?;
-    assert!(rt; point.end()? == to_value(alloc, &Bar::Point { x: 5, y: -5 })?);
+    assert!(rt; point.end()? == to_value(alloc, &EachKind::Point { x: 5, y: -5 })?);
     Ok(())
 }
 

@@ -1,8 +1,8 @@
 //! Structs and collections, written to sinks of each kind.
 
 use crate::counter::Counter;
-use samples::enums::{Bar, Color};
-use samples::structs::{Mascot, User};
+use samples::enums::{Color, EachKind};
+use samples::structs::{Credentials, Mascot};
 use serde_cbor::ser::{IoWrite, Serialize, SliceWrite, Write};
 use serde_cbor::{Serializer, to_writer};
 use std::alloc::{AllocError, Global};
@@ -67,15 +67,15 @@ fn counts_a_field_that_is_left_out(rt: HostRuntime) -> Result<(), Fail> {
     Ok(())
 }
 
-const USER: &[u8] = b"\xa2\x67user_id\x18\x2a\x6dpassword_hash\x84\x01\x02\x03\x04";
+const CREDENTIALS: &[u8] = b"\xa2\x67user_id\x18\x2a\x6dpassword_hash\x84\x01\x02\x03\x04";
 
 /// Writes the struct whose bytes these are to a sink.
-fn write_user<W: Write>(alloc: Global, sink: &mut W) -> serde_cbor::Result<()> {
-    let user = User {
+fn write_credentials<W: Write>(alloc: Global, sink: &mut W) -> serde_cbor::Result<()> {
+    let credentials = Credentials {
         user_id: 42,
         password_hash: [1, 2, 3, 4],
     };
-    to_writer(alloc, sink, &user)
+    to_writer(alloc, sink, &credentials)
 }
 
 // Into slices that are too short: the bytes written are a prefix of the whole.
@@ -98,7 +98,7 @@ fn fills_slice(rt: &impl Abort, alloc: Global, len: usize) -> Result<usize, Fail
     let mut room = [0; 30];
     assert!(rt; len <= room.len());
     let mut sink = SliceWrite::new(&mut room[..len]);
-    let Err(error) = write_user(alloc, &mut sink) else {
+    let Err(error) = write_credentials(alloc, &mut sink) else {
         panic!(rt; "not refused");
     };
     if error.is_memory() {
@@ -107,7 +107,7 @@ fn fills_slice(rt: &impl Abort, alloc: Global, len: usize) -> Result<usize, Fail
     let count = sink.bytes_written();
     assert!(rt; error.is_scratch_too_small());
     assert!(rt; error.offset() == count as u64);
-    assert!(rt; USER.starts_with(&sink.into_inner()[..count]));
+    assert!(rt; CREDENTIALS.starts_with(&sink.into_inner()[..count]));
     Ok(count)
 }
 
@@ -140,11 +140,11 @@ fn reports_a_writer_that_takes_nothing(rt: HostRuntime) -> Done {
 fn fails_after(rt: &impl Abort, alloc: Global, at_once: usize, left: usize, count: usize) -> Done {
     let mut writer = FailingWriter::new(alloc, at_once, left)?;
     is_refused(
-        write_user(alloc, &mut IoWrite::new(&mut writer)),
+        write_credentials(alloc, &mut IoWrite::new(&mut writer)),
         "I/O error",
     )?;
     assert!(rt; writer.taken.len() == count);
-    assert!(rt; USER.starts_with(&writer.taken));
+    assert!(rt; CREDENTIALS.starts_with(&writer.taken));
     Ok(())
 }
 
@@ -152,8 +152,8 @@ fn fails_after(rt: &impl Abort, alloc: Global, at_once: usize, left: usize, coun
 fn goes_on_by_a_byte_a_call(rt: HostRuntime) -> Done {
     let alloc = rt.alloc();
     let mut writer = FailingWriter::new(alloc, 1, 30)?;
-    write_user(alloc, &mut IoWrite::new(&mut writer))?;
-    assert!(rt; writer.taken.as_slice() == USER);
+    write_credentials(alloc, &mut IoWrite::new(&mut writer))?;
+    assert!(rt; writer.taken.as_slice() == CREDENTIALS);
     Ok(())
 }
 
@@ -285,11 +285,11 @@ fn is_written_in_each_form<T: Serialize>(
 fn writes_enums_within_std_types_in_each_form(rt: HostRuntime) -> Done {
     let alloc = rt.alloc();
     let list = vec![in alloc; Color::Other(42), Color::Alpha(1, 9)]?;
-    let mut map: BTreeMap<u8, Option<Bar>> = BTreeMap::new(alloc);
-    map.insert(1, Some(Bar::Number(42)))?;
+    let mut map: BTreeMap<u8, Option<EachKind>> = BTreeMap::new(alloc);
+    map.insert(1, Some(EachKind::Number(42)))?;
     map.insert(2, None)?;
     let named = b"\x83\x82\x82\x65Other\x18\x2a\x83\x65Alpha\x01\x09\
         \xa2\x01\x82\x66Number\x18\x2a\x02\xf6\x81\x65Empty";
     let packed = b"\x83\x82\x82\x01\x18\x2a\x83\x03\x01\x09\xa2\x01\x82\x01\x18\x2a\x02\xf6\x81\0";
-    is_written_in_each_form(&rt, alloc, &(list, map, [Bar::Empty]), (named, packed))
+    is_written_in_each_form(&rt, alloc, &(list, map, [EachKind::Empty]), (named, packed))
 }
