@@ -11,6 +11,7 @@ use row_types::enums::{DataEnum, TwoVariants, Wish};
 use row_types::floats::FloatEnum;
 use row_types::labels::{Claims, Headers, PublicKey, SymmetricKey};
 use row_types::letters::{EnumStruct, Letter, ReprEnumStruct};
+use row_types::private_keys::{PrivateKey, SharedKey};
 use row_types::structs::{Brief, NewtypeStruct, OptionalPerson, UnitStruct};
 use row_types::weather::Weather;
 use samples::enums::{Color, EachKind};
@@ -119,7 +120,23 @@ fn labelled<'r, R: Read<'r> + Drop>(
         "PublicKey" => desk.reads::<PublicKey, R>(row, de)?,
         "Vec<PublicKey>" => desk.reads::<Vec<PublicKey>, R>(row, de)?,
         "SymmetricKey" => desk.reads::<SymmetricKey, R>(row, de)?,
+        "PrivateKey" => desk.reads::<PrivateKey, R>(row, de)?,
+        "SharedKey" => desk.reads::<SharedKey, R>(row, de)?,
         "Claims" => desk.reads::<Claims, R>(row, de)?,
+        _ => return messages(desk, row, de),
+    }
+    Ok(true)
+}
+
+fn messages<'r, R: Read<'r> + Drop>(
+    desk: &mut Desk<'_>,
+    row: &Row<'_>,
+    de: Deserializer<R>,
+) -> io::Result<bool> {
+    match row.kind {
+        "Tagged<(ByteBuf, Headers, ByteBuf)>" => {
+            desk.reads::<Tagged<(ByteBuf, Headers, ByteBuf)>, R>(row, de)?
+        }
         "Tagged<(ByteBuf, Headers, ByteBuf, ByteBuf)>" => {
             desk.reads::<Tagged<(ByteBuf, Headers, ByteBuf, ByteBuf)>, R>(row, de)?
         }

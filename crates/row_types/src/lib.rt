@@ -10,5 +10,6 @@ pub mod enums;
 pub mod floats;
 pub mod labels;
 pub mod letters;
+pub mod private_keys;
 pub mod structs;
 pub mod weather;
