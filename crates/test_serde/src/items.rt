@@ -115,7 +115,7 @@ fn go_to_json(rt: HostRuntime) -> Done {
         let read = read_item(alloc, bytes)?;
         assert_eq!(rt; serde_json::to_string(alloc, &read)?.as_str(), text);
         let again: Item = serde_json::from_str(alloc, text)?;
-        assert!(rt; again == read, "{text}");
+        assert!(rt; again == read);
     }
     Ok(())
 }
