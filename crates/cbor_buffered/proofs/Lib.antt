@@ -1,3 +1,3 @@
 pub mod BlockBytes
 pub mod Refusals
-pub mod Steps
+pub mod TakenInTurn

@@ -1,7 +1,7 @@
 -- What a source that reads ahead means.
 use Rattle.std.specs.Prelude.{ℕ, ◌+◌, List, take, drop, Option, None}
 use Rattle.std.specs.Io.KnownBytes.{prepend_known}
-use Rattle.cbor_read.specs.Source.{Input, Stays, Refused, reader_refusals}
+use Rattle.cbor_read.specs.Source.{Input, Stays, RefusedCall, reader_refusals}
 use Rattle.cbor_io.specs.declared.read_error.ReadError.{ReadError}
 use Rattle.cbor_buffered.specs.declared.buffered_read.BufferedRead.{BufferedRead}
 
@@ -34,5 +34,5 @@ input_of_buffered remaining s =
 
 -- a call that wanted n bytes was refused, and took none
 pub record RefusedHere (s t : Input) (n : ℕ) (e : ReadError) : Type 0 where
-  pub refused : Refused reader_refusals s t n e
+  pub refused : RefusedCall reader_refusals s t n e
   pub stays : Stays s t

@@ -1,9 +1,9 @@
 pub mod Meanings
-pub mod Made
-pub mod Held
-pub mod Named
+pub mod MemoryAnswers
+pub mod BuilderParts
+pub mod VariantContents
 pub mod Spelled
-pub mod Given
+pub mod CanonicalReadings
 pub mod NoTags
 pub mod Tags
 pub mod PeekedTags

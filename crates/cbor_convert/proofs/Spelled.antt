@@ -26,7 +26,7 @@ use Rattle.cbor_value.specs.declared.Value.{Value}
 use Rattle.cbor_value.specs.View.{view}
 use Rattle.cbor_ser.specs.Written.{IsNotWritten}
 use Rattle.cbor_convert.specs.Meaning.{value_of}
-use Rattle.cbor_convert.proofs.Made.{refused_memory}
+use Rattle.cbor_convert.proofs.MemoryAnswers.{refused_memory}
 
 -- ---- the item of a document
 

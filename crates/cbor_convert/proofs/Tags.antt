@@ -13,10 +13,10 @@ use Rattle.cbor_io.specs.declared.read_error.ReadErrorCode.{ReadErrorCode}
 use Rattle.cbor_decode.specs.Gives.{FailsBy, Limits, ReportsIo, Step, limits, values}
 use Rattle.cbor_decode.proofs.facts.Steps.{passed_on, step_then}
 use Rattle.cbor_decode_as.specs.Tags.{TagIs, tag_head_at}
-use Rattle.cbor_convert.specs.Tagged.{IsTagged, BeginsNoTag, StandsNoTag}
+use Rattle.cbor_convert.specs.Tagged.{IsTagged, BeginsNoTag, StandsNoTag, WithinTag}
 use Rattle.cbor_io.specs.declared.error.Error.{Error}
 use Rattle.cbor_io.specs.Error.{code_of, offset_of}
-use Rattle.cbor_decode_as.specs.Takes.{ReportsFault, ReportsItem, WhereTotal}
+use Rattle.cbor_decode_as.specs.Takes.{MemoryFor, ReportsFault, ReportsItem, WhereTotal}
 use Rattle.cbor_decode_as.proofs.facts.Readings.{refuses_fault, refuses_then}
 use Rattle.cbor_convert.proofs.NoTags.{no_tag_item, tag_stops}
 use Rattle.cbor_decode_as.specs.Takes.{raws, IsRead, IsNotRead, Refuses}
@@ -50,6 +50,24 @@ read_untagged reads (raw.tag w n q) tag x other h = absurd (other w n q refl)
 read_untagged reads (raw.simple s) tag x other h = h.1
 read_untagged reads (raw.float w bits) tag x other h = h.1
 
+-- what holds of an item without a tag
+within_none : (P : Raw → Type 0) (r : Raw) → ((w : HeadWidth) (n : ℕ) (q : Raw) → r ≡ raw.tag w n q → ⊥) → P r → WithinTag P r
+within_none P (raw.unsigned w n) other h = h
+within_none P (raw.negative w n) other h = h
+within_none P (raw.bytes c) other h = h
+within_none P (raw.text c) other h = h
+within_none P (raw.bytes_chunks cs) other h = h
+within_none P (raw.text_chunks cs) other h = h
+within_none P (raw.array l rs) other h = h
+within_none P (raw.map l ps) other h = h
+within_none P (raw.tag w n q) other h = absurd (other w n q refl)
+within_none P (raw.simple s) other h = h
+within_none P (raw.float w bits) other h = h
+
+-- what an input sets stays
+kept_limits : (s m : Input) (bs rest : List ℕ) → TookSome s m → m.offset + length rest ≡ s.offset + length bs → limits m rest ≡ limits s bs
+kept_limits s m bs rest took total = ap₂ (λ (n : ℕ) (r : Option ℕ). record { total = n; room = r }) total took.room
+
 module _ (f : Formats) (levels left n : ℕ) (one : levels ≡ left + 1) where
   abbrev within : HeadWidth → Reads Raw → Reads Raw
   within w (Ok x) = Ok (raw.tag w n x.0, x.1)
@@ -81,12 +99,34 @@ module _ (f : Formats) (levels left n : ℕ) (one : levels ≡ left + 1) where
           means = (is, got.means);
         }) one two
 
-    inner_read : (w : HeadWidth) (read : Reads Raw) (r : Raw) (t : T) (rest : List ℕ) → within w read ≡ Ok (r, rest) → Tags r t → IsRead reads read (value_of t) rest
-    inner_read w (Ok x) r t rest is means =
+    -- what is within the item that is read, and read as its value
+    record Inner (w : HeadWidth) (read : Reads Raw) (r : Raw) (t : T) (rest : List ℕ) : Type 0 where
+      item : Raw
+      is : read ≡ Ok (item, rest)
+      means : reads item (value_of t)
+      whole : raw.tag w n item ≡ r
+
+    inner_of : (w : HeadWidth) (read : Reads Raw) (r : Raw) (t : T) (rest : List ℕ) → within w read ≡ Ok (r, rest) → Tags r t → Inner w read r t rest
+    inner_of w (Ok x) r t rest is means =
         let both = ok_is (raw.tag w n x.0, x.1) (r, rest) is in
-        let here : Tags (raw.tag w n x.0) t = subst (λ (q : Raw). Tags q t) (sym (ap (λ (p : Raw × List ℕ). p.0) both)) means in
-        record { item = x.0; is = ap (λ (z : List ℕ). Ok (x.0, z)) (ap (λ (p : Raw × List ℕ). p.1) both); means = here.1 }
-    inner_read w (Err e) r t rest is means = absurd cc
+        let whole = ap (λ (p : Raw × List ℕ). p.0) both in
+        let here : Tags (raw.tag w n x.0) t = subst (λ (q : Raw). Tags q t) (sym whole) means in
+        record { item = x.0; is = ap (λ (z : List ℕ). Ok (x.0, z)) (ap (λ (p : Raw × List ℕ). p.1) both); means = here.1; whole = whole }
+    inner_of w (Err e) r t rest is means = absurd cc
+
+    inner_read : (w : HeadWidth) (read : Reads Raw) (r : Raw) (t : T) (rest : List ℕ) → within w read ≡ Ok (r, rest) → Tags r t → IsRead reads read (value_of t) rest
+    inner_read w read r t rest is means =
+        let inner = inner_of w read r t rest is means in
+        record { item = inner.item; is = inner.is; means = inner.means }
+
+    -- a tag, and memory that ran out within
+    pub tag_asks : (asks : Raw → Type 0) (s m : Input) (e : Error) → TagIs f levels n s m → MemoryFor asks f reads left m e → MemoryFor (WithinTag asks) f Tags levels s e
+    tag_asks asks s m e step memory out bs reports t rest got =
+        let first = step.reported bs reports in
+        let w = first.holds.0 in
+        let inner = inner_of w (item_at (raws f (limits s bs)) left first.rest) got.item t rest (sym (tag_within (limits s bs) bs first.rest w first.holds.1) ∙ got.is) got.means in
+        let is = subst (λ (l : Limits). item_at (raws f l) left first.rest ≡ Ok (inner.item, rest)) (sym (kept_limits s m bs first.rest step.took first.total)) inner.is in
+        subst (WithinTag asks) inner.whole (memory out first.rest first.reports (value_of t) rest (record { item = inner.item; is = is; means = inner.means }))
 
     -- a tag, and nothing that is read within
     pub tag_unread : {t : Input} (allowed : ReadErrorCode → Bool) (s m : Input) (k : ErrorCode) (at : ℕ) → TagIs f levels n s m → Refuses allowed m t k at (λ l bs. IsNotRead reads (item_at (raws f l) left bs)) → Refuses allowed s t k at (λ l bs. IsNotRead Tags (item_at (raws f l) levels bs))
@@ -125,6 +165,16 @@ module _ {A T : Type 0} (reads : Raw → A → Type 0) (tag_of : T → Option �
         means = read_untagged reads got.item (tag_of t) (value_of t) (other_is l bs got.item rest none.1 got.is) got.means;
       })) step h
 
+  -- and memory that ran out
+  pub untagged_asks : (asks : Raw → Type 0) (s m : Input) (e : Error) → StandsNoTag s m → MemoryFor asks f reads levels m e → MemoryFor (WithinTag asks) f AsTagged levels s e
+  untagged_asks asks s m e step memory out bs reports t rest got =
+      let first = step.reported bs reports in
+      let none = first.holds in
+      let other = other_is (limits s bs) bs got.item rest none.1 got.is in
+      let there : item_at (raws f (limits s bs)) levels first.rest ≡ Ok (got.item, rest) = ap (item_at (raws f (limits s bs)) levels) none.0 ∙ got.is in
+      let is = subst (λ (l : Limits). item_at (raws f l) levels first.rest ≡ Ok (got.item, rest)) (sym (kept_limits s m bs first.rest step.took first.total)) there in
+      within_none asks got.item other (memory out first.rest first.reports (value_of t) rest (record { item = got.item; is = is; means = read_untagged reads got.item (tag_of t) (value_of t) other got.means }))
+
   -- a tag's head that can't be read
   pub head_refused : {t : Input} (allowed : ReadErrorCode → Bool) (s : Input) (e : Error) → TookSome s t → ReportsFault allowed (λ l. tag_head_at levels) s e → Refuses allowed s t (code_of e) (offset_of e) (λ l bs. IsNotRead AsTagged (item_at (raws f l) levels bs))
   head_refused allowed s e took reported =
@@ -148,7 +198,7 @@ reported_then allowed read read' s m e P on step reports bs is =
     let device = ReportsIo allowed in
     let code = code_of e in
     let at = offset_of e in
-    let same : limits m one.rest ≡ limits s bs = ap₂ (λ (n : ℕ) (r : Option ℕ). record { total = n; room = r }) one.total step.took.room in
+    let same = kept_limits s m bs one.rest step.took one.total in
     let there = subst (λ (n : ℕ). FailsBy device code n at (read (limits m one.rest) one.rest)) one.total (reports one.rest one.reports) in
     let here = subst (λ (l : Limits). FailsBy device code (s.offset + length bs) at (read l one.rest)) same there in
     passed_on device code (s.offset + length bs) at (read (limits s bs) one.rest) (read' (limits s bs) bs) (λ f. on (limits s bs) bs one.rest f one.holds) here

@@ -18,6 +18,11 @@ abbrev pub IsTagged : {A : Type 0} → (Raw → A → Type 0) → Raw → Option
 IsTagged reads (raw.tag w n r) tag x = (tag ≡ Some n) × reads r x
 IsTagged reads r tag x = (tag ≡ None) × reads r x
 
+-- P holds of what an item's outermost tag is of, or of the item where it has no tag.
+abbrev pub WithinTag : (Raw → Type 0) → Raw → Type 0
+WithinTag P (raw.tag w n r) = P r
+WithinTag P r = P r
+
 -- the words for an item that isn't within this tag
 abbrev pub tag_expected : ℕ → List ℕ
 tag_expected n = codes "invalid type: expected tag " ++ decimal n

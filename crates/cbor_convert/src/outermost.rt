@@ -1,7 +1,8 @@
 //! The tag at the front.
 
-ghost use Rattle.std.specs.Prelude.{◌≡◌, IfOk, IfErr, IfSome, IfNone};
+ghost use Rattle.std.specs.Prelude.{◌≡◌, ◌≢◌, IfOk, IfErr, IfSome, IfNone};
 ghost use Rattle.cbor_io.specs.Error.{code_of};
+ghost use Rattle.cbor_io.specs.declared.error.ErrorCode.TheVariants.{OutOfMemory};
 ghost use Rattle.cbor_decode.specs.Gives.{ReportsNoForm};
 ghost use Rattle.cbor_decode_as.specs.Takes.{formats_of, ReportsFault};
 ghost use Rattle.cbor_decode_as.specs.Tags.{tag_head_at, LevelsBehind, TagIs};
@@ -25,6 +26,7 @@ pub(crate) fn outermost<R: Source>(de: &mut Deserializer<R>) -> Result<Option<u6
         (R.source de.old.decoder.source)) }
     ensures took { IfErr result (λ e. call.TookSome R.source de.old de.new) }
     ensures no_form { IfErr result (λ e. ReportsNoForm (code_of e)) }
+    ensures memory { IfErr result (λ e. code_of e ≢ OutOfMemory) }
     ensures levels { LevelsBehind result de.old.decoder.levels de.new.decoder.levels }
     ensures formats { de.new.decoder.formats ≡ de.old.decoder.formats }
 {

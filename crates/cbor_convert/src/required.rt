@@ -47,9 +47,11 @@ impl<const N: u64, T: Serialize> Serialize for Required<N, T> {
 /// What is within the tag.
 impl<const N: u64, T: Readable> Readable for Required<N, T> {
     ghost use Rattle.std.specs.Prelude.{Some};
-    ghost use Rattle.cbor_convert.specs.Tagged.{IsTagged};
+    ghost use Rattle.cbor_convert.specs.Tagged.{IsTagged, WithinTag};
 
     ghost reads = { λ c r x. IsTagged (T.reads c) r (Some N) x.0 };
+
+    ghost asks_memory = { λ a. WithinTag (T.asks_memory a) };
 
     ghost wrong_forms = { T.wrong_forms };
 }

@@ -79,11 +79,13 @@ impl<T: Serialize> Serialize for Tagged<T> {
 
 /// The outermost tag and what is within it, or an item without a tag.
 impl<T: Readable> Readable for Tagged<T> {
-    ghost use Rattle.cbor_convert.specs.Tagged.{IsTagged};
+    ghost use Rattle.cbor_convert.specs.Tagged.{IsTagged, WithinTag};
 
     ghost reads = { λ c r t. IsTagged (T.reads c) r t.tag t.value };
 
     ghost total = { T.total };
+
+    ghost asks_memory = { λ a. WithinTag (T.asks_memory a) };
 
     ghost wrong_forms = { T.wrong_forms };
 }

@@ -69,6 +69,12 @@ RefusesBeginning seen refusals kind old e =
     let s = seen old.decoder.source in
     WhateverTaken s (begins.RefusesBeginning kind refusals old.decoder.levels s) e
 
+-- Where memory ran out, it was asked for the message on an item of another kind.
+abbrev pub MemoryForOther : {R : Type 0} → (R → Input) → (Remaining → Head) → Deserializer R → Error
+    → Type 0
+MemoryForOther seen kind old e =
+    begins.MemoryForOther kind old.decoder.levels (seen old.decoder.source) e
+
 -- an enum was taken up to its identifier, which is one of the names
 abbrev pub OpensVariant : {R : Type 0} → (R → Input) → List (List ℕ) → Deserializer R
     → Deserializer R → ℕ → Form → Type 0
@@ -124,6 +130,12 @@ abbrev pub TakesNext : {R A : Type 0} → (R → Input) → (ReadErrorCode → B
 TakesNext seen refusals reads remaining behind old new result =
     arrays.TakesNext refusals (formats_of old.decoder.formats) reads old.decoder.levels remaining behind (seen old.decoder.source) (seen new.decoder.source) result
 
+-- Where memory ran out, the next item that is read as something is one for which memory may be asked.
+abbrev pub MemoryForNext : {R A : Type 0} → (R → Input) → (Raw → Type 0) → (Raw → A → Type 0)
+    → Remaining → Deserializer R → Error → Type 0
+MemoryForNext seen asks reads remaining old e =
+    arrays.MemoryForNext asks (formats_of old.decoder.formats) reads old.decoder.levels remaining (seen old.decoder.source) e
+
 abbrev pub TakesPart : {R A : Type 0} → (R → Input) → (ReadErrorCode → Bool) → (Raw → A → Type 0)
     → Remaining → Remaining → Deserializer R → Deserializer R → Result A Error → Type 0
 TakesPart seen refusals reads remaining behind old new result =
@@ -133,6 +145,12 @@ abbrev pub TakesKey : {R A : Type 0} → (R → Input) → (ReadErrorCode → Bo
     → Remaining → Remaining → Deserializer R → Deserializer R → Result (Option A) Error → Type 0
 TakesKey seen refusals reads remaining behind old new result =
     maps.TakesKey refusals (formats_of old.decoder.formats) reads old.decoder.levels remaining behind (seen old.decoder.source) (seen new.decoder.source) result
+
+-- the same of the next key
+abbrev pub MemoryForKey : {R A : Type 0} → (R → Input) → (Raw → Type 0) → (Raw → A → Type 0)
+    → Remaining → Deserializer R → Error → Type 0
+MemoryForKey seen asks reads remaining old e =
+    maps.MemoryForKey asks (formats_of old.decoder.formats) reads old.decoder.levels remaining (seen old.decoder.source) e
 
 abbrev pub TakesContent : {R A : Type 0} → (R → Input) → (ReadErrorCode → Bool)
     → (Content → A → Type 0) → Form → Deserializer R → Deserializer R → Result A Error → Type 0

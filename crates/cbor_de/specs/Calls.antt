@@ -8,7 +8,7 @@ use Rattle.cbor_io.specs.declared.read_error.ReadErrorCode.{ReadErrorCode}
 use Rattle.cbor_read.specs.Source.{Input}
 use Rattle.cbor_decode.specs.Decoder.{SameSettings}
 use Rattle.cbor_decode.specs.Steps as step
-use Rattle.cbor_decode_as.specs.Calls as decoder
+use Rattle.cbor_decode_as.specs.DecoderCalls as decoder
 use Rattle.cbor_decode_as.specs.Takes as input
 use Rattle.cbor_decode_as.specs.Takes.{formats_of}
 use Rattle.cbor_de.specs.Forms as form

@@ -1,5 +1,5 @@
 -- What a stream gives of its bytes, from the first call to the last.
-use Rattle.std.specs.Prelude.{◌≡◌, ◌⊎◌, ◌+◌, ◌-◌, ⊤, ℕ, Bool, false, List, [], ◌∷◌, length, Option, Result, Ok, Err}
+use Rattle.std.specs.Prelude.{◌≡◌, ◌≢◌, ◌⊎◌, ◌+◌, ◌-◌, ⊤, ℕ, Bool, false, List, [], ◌∷◌, length, Option, Result, Ok, Err}
 use Rattle.std.specs.Iterator.{Drains}
 use Rattle.std.specs.List.{AllByRecursion}
 use Rattle.cbor_model.specs.Acceptable.{FitsScratch}
@@ -7,6 +7,7 @@ use Rattle.cbor_model.specs.Formats.{Formats, all_formats}
 use Rattle.cbor_model.specs.Raw.{Raw, AreBytes}
 use Rattle.cbor_model.specs.Allowed.{Limits}
 use Rattle.cbor_io.specs.declared.error.Error.{Error}
+use Rattle.cbor_io.specs.declared.error.ErrorCode.TheVariants.{OutOfMemory}
 use Rattle.cbor_io.specs.declared.read_error.ReadErrorCode.{ReadErrorCode}
 use Rattle.cbor_io.specs.Error.{code_of, offset_of, IsOutOfMemory}
 use Rattle.cbor_decode.specs.FirstRefusal.{ReportsFirst}
@@ -24,6 +25,10 @@ AreReadAs reads _ _ = ⊥
 -- memory ran out, or the device has a fault
 abbrev pub IsExcused : Type 0 → Error → Type 0
 IsExcused Device e = ExcusedBy Device (code_of e) (offset_of e)
+
+-- the device has a fault
+abbrev pub IsFault : Type 0 → Error → Type 0
+IsFault Device e = IsExcused Device e × (code_of e ≢ OutOfMemory)
 
 module _ {A : Type 0} (reads : Raw → A → Type 0) (total : Bool) (Device : Type 0)
     (levels end : ℕ) (room : Option ℕ) where
@@ -51,7 +56,7 @@ module _ {A : Type 0} (reads : Raw → A → Type 0) (total : Bool) (Device : Ty
   AnswersTo (r ∷ rs) rest (Ok x ∷ answers) = reads r x × AnswersTo rs rest answers
   AnswersTo (r ∷ rs) rest (Err e ∷ []) = Rejected r e
   AnswersTo [] [] [] = ⊤
-  AnswersTo [] [] (Err e ∷ []) = IsExcused Device e
+  AnswersTo [] [] (Err e ∷ []) = IsFault Device e
   AnswersTo [] (b ∷ rest) (Err e ∷ []) = Faulty (b ∷ rest) e
   AnswersTo _ _ _ = ⊥
 

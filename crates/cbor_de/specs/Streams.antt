@@ -5,10 +5,11 @@ use Rattle.cbor_model.specs.Raw.{Raw}
 use Rattle.cbor_model.specs.Formats.{Formats}
 use Rattle.cbor_model.specs.Reader.{item_at}
 use Rattle.cbor_io.specs.declared.error.Error.{Error}
+use Rattle.cbor_io.specs.declared.error.ErrorCode.TheVariants.{OutOfMemory}
 use Rattle.cbor_io.specs.declared.read_error.ReadErrorCode.{ReadErrorCode}
 use Rattle.cbor_io.specs.Error.{code_of, offset_of}
 use Rattle.cbor_read.specs.Source.{Input, Stays}
-use Rattle.cbor_decode.specs.Gives.{Advances}
+use Rattle.cbor_decode.specs.Gives.{Advances, Reports}
 use Rattle.cbor_decode_as.specs.Takes.{formats_of, raws, IsNotRead, Refuses, TakesItem, ReportsItem}
 use Rattle.cbor_de.specs.declared.stream.StreamDeserializer.{StreamDeserializer}
 
@@ -56,6 +57,8 @@ pub record GivesError {A : Type 0} (refusals : ReadErrorCode → Bool) (reads : 
   pub refused : Refuses refusals s.input t.input (code_of e) (offset_of e) (λ l bs.
       (bs ≢ []) × IsNotRead (reads s.formats) (item_at (raws s.formats l) s.levels bs))
   pub fault : ReportsItem false total refusals s.formats s.levels s.input e
+  -- At the end of the input no memory is asked for.
+  pub at_end : Reports s.input [] → code_of e ≢ OutOfMemory
   pub done : t.done ≡ true
   pub levels : t.levels ≡ s.levels
   pub formats : t.formats ≡ s.formats

@@ -44,12 +44,12 @@ pub record OpensArray (inner left : ℕ) (remaining : Remaining) (start items : 
 
 -- What stands before the identifier in each form, if that form is read: an array's head; the head of
 -- one byte of a map of one pair, whose key may begin so; or nothing.
-abbrev pub Opens : Formats → Form → ℕ → ℕ → List ℕ → List ℕ → Type 0
-Opens f (form.Array remaining) inner left start name =
+abbrev pub OpensForm : Formats → Form → ℕ → ℕ → List ℕ → List ℕ → Type 0
+OpensForm f (form.Array remaining) inner left start name =
     (f.legacy_enums ≡ true) × OpensArray inner left remaining start name
-Opens f form.Map inner left start name =
+OpensForm f form.Map inner left start name =
     (f.standard_enums ≡ true) × (start ≡ 0xa1 ∷ name) × (inner ≡ left + 1) × BeginsKey f name
-Opens f form.Alone inner left start name =
+OpensForm f form.Alone inner left start name =
     (reads_names f ≡ true) × (start ≡ name) × (inner ≡ left)
 
 -- The item is the identifier of the variant in this place. In an array or a map it may have tags of its
@@ -67,7 +67,7 @@ pub record BeginsEnum (f : Formats) (names : List (List ℕ)) (levels left index
   pub start : List ℕ
   pub tags : BeginsInTags levels inner bytes start
   pub name : List ℕ
-  pub opens : Opens f form inner left start name
+  pub opens : OpensForm f form inner left start name
   pub identifier : BeginsAs f left (Identifies names form) name index rest
 
 -- The source has just the rest to come, and counted the bytes before it.
@@ -127,7 +127,7 @@ TupleTaken = (refusals : ReadErrorCode → Bool) (levels left : ℕ) (form : For
 -- ---- examples
 
 -- 82 01: the identifier 1 is the first of two items
-first_of_two : Opens all_formats (form.Array (Counted 1)) 127 126 (0x82 ∷ 0x01 ∷ []) (0x01 ∷ [])
+first_of_two : OpensForm all_formats (form.Array (Counted 1)) 127 126 (0x82 ∷ 0x01 ∷ []) (0x01 ∷ [])
 first_of_two = (
   refl,
   record {
@@ -141,11 +141,11 @@ first_of_two = (
 )
 
 -- a1 01: the identifier 1 is the key of one pair
-key_of_one : Opens all_formats form.Map 127 126 (0xa1 ∷ 0x01 ∷ []) (0x01 ∷ [])
+key_of_one : OpensForm all_formats form.Map 127 126 (0xa1 ∷ 0x01 ∷ []) (0x01 ∷ [])
 key_of_one = (refl, refl, refl, refl)
 
 -- an array with a longer head is an enum too
-longer_head : Opens all_formats (form.Array (Counted 1)) 127 126 (0x98 ∷ 0x02 ∷ 0x01 ∷ []) (0x01 ∷ [])
+longer_head : OpensForm all_formats (form.Array (Counted 1)) 127 126 (0x98 ∷ 0x02 ∷ 0x01 ∷ []) (0x01 ∷ [])
 longer_head = (
   refl,
   record {

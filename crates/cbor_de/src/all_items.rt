@@ -1,6 +1,7 @@
 //! All items of an input.
 
-ghost use Rattle.std.specs.Prelude.{◌≡◌, ◌⊎◌, ◌+◌, ◌++◌, ◌∷◌, ℕ};
+ghost use Rattle.cbor_io.specs.Error.{IsOutOfMemory};
+ghost use Rattle.std.specs.Prelude.{◌≡◌, ◌≢◌, ◌⊎◌, ◌+◌, ◌++◌, ◌∷◌, ℕ};
 ghost use Rattle.std.specs.Prelude.{List, [], length, IfOk, IfErr, map};
 ghost use Rattle.std.specs.Prelude.{Ok, Err};
 ghost use Rattle.std.specs.List.{AllByRecursion};
@@ -10,7 +11,7 @@ ghost use Rattle.cbor_model.specs.Raw.{Raw, AreBytes};
 ghost use Rattle.cbor_decode.specs.Gives.{ReportsIo, Reports};
 ghost use Rattle.cbor_decode_as.specs.Takes.{lending};
 ghost use Rattle.cbor_de.specs.Items.{AreMostItems};
-ghost use Rattle.cbor_de.specs.StreamAnswers.{AnswersTo, AreReadAs, IsExcused};
+ghost use Rattle.cbor_de.specs.StreamAnswers.{AnswersTo, AreReadAs};
 
 use crate::{Deserialize, StreamDeserializer};
 use cbor_io::error::{Error, Result};
@@ -34,12 +35,13 @@ pub fn read_items<'de, T: Deserialize<'de, R>, R: Read<'de> + Drop>(
         → AreMostItems max_depth bytes items rest
         → AllByRecursion (FitsScratch (R.source source).room) items
         → (rest ≡ []) × AreReadAs (T.reads (lending all_formats R.lends)) items v.items) }
-    // An error is the answer after some of the items, or to what follows them; or memory ran out.
+    // An error is the answer after some of the items, or to what follows them; or memory ran out for
+    // the list of them.
     ensures refused { IfErr result (λ e. (bytes rest : List ℕ) (items : List Raw)
         → Reports (R.source source) bytes → AreBytes bytes
         → AreMostItems max_depth bytes items rest
         → AllByRecursion (FitsScratch (R.source source).room) items
-        → IsExcused (ReportsIo R.refusals) e ⊎ ((read : List T)
+        → (IsOutOfMemory e × (items ≢ [])) ⊎ ((read : List T)
         × AnswersTo (T.reads (lending all_formats R.lends)) T.total (ReportsIo R.refusals)
         max_depth ((R.source source).offset + length bytes) (R.source source).room items rest
         (map Ok read ++ Err e ∷ []))) }

@@ -1,11 +1,13 @@
 //! Maps, one pair after the other (RFC 7049, section 2.1, major type 5).
 
-ghost use Rattle.std.specs.Prelude.{◌≡◌, ◌<◌, true, false, IfOk, IfErr};
+ghost use Rattle.std.specs.Prelude.{◌≡◌, ◌≢◌, ◌<◌, true, false, IfOk, IfErr};
 ghost use Rattle.std.specs.Option.{is_some};
 ghost use Rattle.std.specs.Borrow.{sem, RestsIfErr};
 ghost use Rattle.cbor_decode.specs.declared.cursor.Remaining.TheVariants.{Counted};
 ghost use Rattle.cbor_io.specs.Error.{code_of};
+ghost use Rattle.cbor_io.specs.declared.error.ErrorCode.TheVariants.{OutOfMemory};
 ghost use Rattle.cbor_decode.specs.Gives.{ReportsNoForm};
+ghost use Rattle.cbor_read.specs.Source.{asks_for};
 ghost use Rattle.cbor_io.specs.declared.error.Error.{Error};
 ghost use Rattle.cbor_decode.specs.declared.head.Head.TheVariants as kind;
 ghost use Rattle.cbor_decode_as.specs.Accesses.{size_of};
@@ -51,6 +53,7 @@ impl<R: Source> Deserializer<R> {
         ensures unopened { IfErr result
             (access.RefusesBeginning R.source R.refusals kind.Map self.old) }
         ensures no_form { IfErr result (λ e. ReportsNoForm (code_of e)) }
+        ensures memory { IfErr result (access.MemoryForOther R.source kind.Map self.old) }
         ensures taken { IfOk result (λ m. call.Advances R.source self.old m.de.now) }
         ensures settings { IfOk result
             (λ m. call.Within self.old.decoder.levels m.outer self.old m.de.now) }
@@ -110,6 +113,11 @@ impl<'a, R: Source> MapAccess<'a, R> {
         ensures read { access.TakesKey R.source R.refusals
             (K.reads (context self.old.de.now.decoder.formats R.lends)) self.old.remaining
             self.new.remaining self.old.de.now self.new.de.now result }
+        // Memory is asked for by the reading of `K` alone.
+        ensures memory { IfErr result (access.MemoryForKey R.source
+            (K.asks_memory (asks_for R.refusals R.lends))
+            (K.reads (context self.old.de.now.decoder.formats R.lends)) self.old.remaining
+            self.old.de.now) }
         // Nothing remains after the last pair, and a loop over the pairs ends.
         ensures remains { IfOk result
             (access.Ends R.source self.old.remaining self.new.remaining self.old.de.now
@@ -157,6 +165,9 @@ impl<'a, R: Source> MapAccess<'a, R> {
         ensures read { call.TakesItem R.source R.refusals
             (V.reads (context self.old.de.now.decoder.formats R.lends))
             self.old.de.now self.new.de.now result }
+        ensures memory { IfErr result
+            (call.MemoryFor R.source (V.asks_memory (asks_for R.refusals R.lends))
+            (V.reads (context self.old.de.now.decoder.formats R.lends)) self.old.de.now) }
         ensures form { IfErr result (call.MayReport R.source V.wrong_forms self.old.de.now) }
         ensures due { IfOk result (λ v. self.new.value_due ≡ false) }
         ensures settings { call.StaysInside self.old.outer self.old.de.now self.new.de.now result }
@@ -202,6 +213,7 @@ impl<'a, R: Source> MapAccess<'a, R> {
             (R.source self.entry.de.now.decoder.source) (R.source self.exit.0.now.decoder.source)
             result }
         ensures no_form { IfErr result (λ e. ReportsNoForm (code_of e)) }
+        ensures memory { IfErr result (λ e. code_of e ≢ OutOfMemory) }
         ensures settings { call.BackTo self.entry.outer self.entry.de.now self.exit.0.now }
     {
         let MapAccess {

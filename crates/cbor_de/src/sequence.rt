@@ -1,9 +1,11 @@
 //! Arrays, one item after the other (RFC 7049, section 2.1, major type 4).
 
-ghost use Rattle.std.specs.Prelude.{◌≡◌, ◌<◌, IfOk, IfErr};
+ghost use Rattle.std.specs.Prelude.{◌≡◌, ◌≢◌, ◌<◌, IfOk, IfErr};
 ghost use Rattle.cbor_decode.specs.declared.cursor.Remaining.TheVariants.{Counted};
 ghost use Rattle.std.specs.Borrow.{sem, RestsIfErr};
 ghost use Rattle.cbor_io.specs.Error.{code_of, offset_of};
+ghost use Rattle.cbor_read.specs.Source.{asks_for};
+ghost use Rattle.cbor_io.specs.declared.error.ErrorCode.TheVariants.{OutOfMemory};
 ghost use Rattle.cbor_decode.specs.Gives.{IsErrorOf, ReportsNoForm};
 ghost use Rattle.cbor_decode.specs.Gives.{ReportsNoKey};
 ghost use Rattle.cbor_decode_as.specs.Accesses.{TakesEnd, size_of, TakesMore};
@@ -52,6 +54,7 @@ impl<R: Source> Deserializer<R> {
         ensures unopened { IfErr result
             (access.RefusesBeginning R.source R.refusals kind.Array self.old) }
         ensures no_form { IfErr result (λ e. ReportsNoForm (code_of e)) }
+        ensures memory { IfErr result (access.MemoryForOther R.source kind.Array self.old) }
         ensures taken { IfOk result (λ s. call.Advances R.source self.old s.de.now) }
         ensures settings { IfOk result
             (λ s. call.Within self.old.decoder.levels s.outer self.old s.de.now) }
@@ -121,6 +124,11 @@ impl<'a, R: Source> SeqAccess<'a, R> {
         ensures read { access.TakesNext R.source R.refusals
             (T.reads (context self.old.de.now.decoder.formats R.lends)) self.old.remaining
             self.new.remaining self.old.de.now self.new.de.now result }
+        // Memory is asked for by the reading of `T` alone.
+        ensures memory { IfErr result (access.MemoryForNext R.source
+            (T.asks_memory (asks_for R.refusals R.lends))
+            (T.reads (context self.old.de.now.decoder.formats R.lends)) self.old.remaining
+            self.old.de.now) }
         ensures form { IfErr result (call.MayReport R.source T.wrong_forms self.old.de.now) }
         // Nothing remains after the last item, and a loop over the items ends.
         ensures remains { IfOk result
@@ -206,6 +214,7 @@ impl<'a, R: Source> SeqAccess<'a, R> {
             (R.source self.entry.de.now.decoder.source) (R.source self.exit.0.now.decoder.source)
             result }
         ensures no_form { IfErr result (λ e. ReportsNoForm (code_of e)) }
+        ensures memory { IfErr result (λ e. code_of e ≢ OutOfMemory) }
         ensures settings { call.BackTo self.entry.outer self.entry.de.now self.exit.0.now }
     {
         let SeqAccess {

@@ -3,9 +3,11 @@
 //! [`SeqAccess`](crate::SeqAccess) and [`VariantAccess`](crate::VariantAccess), which keep count of
 //! the levels.
 
-ghost use Rattle.std.specs.Prelude.{◌≡◌, ◌^◌, ◌<◌, [], ◌∷◌, codes, length, take};
+ghost use Rattle.std.specs.Prelude.{◌≡◌, ◌≢◌, ◌^◌, ◌<◌, [], ◌∷◌, codes, length, take};
 ghost use Rattle.std.specs.Prelude.{IfOk, IfErr, IfSome, MatchOption, Ok, OnOk, OnErr, OnSome};
 ghost use Rattle.cbor_io.specs.Error.{code_of};
+ghost use Rattle.cbor_io.specs.ReadError.{why};
+ghost use Rattle.cbor_io.specs.declared.read_error.ReadErrorCode.TheVariants as reading;
 ghost use Rattle.cbor_read.specs.Source.{Input, RefusedByte, Stays, TookKept};
 ghost use Rattle.cbor_decode.specs.Decoder.{SameSettings};
 ghost use Rattle.cbor_decode.specs.Gives.{IsErrorOf, ReportsNoForm};
@@ -13,9 +15,9 @@ ghost use Rattle.cbor_decode.specs.declared.head.Head.TheVariants as kind;
 ghost use Rattle.cbor_decode.specs.declared.refusal.Refused.TheVariants.{Kept};
 ghost use Rattle.cbor_decode_as.specs.Identifiers.{texts};
 ghost use Rattle.cbor_decode_as.specs.Takes.{formats_of};
-ghost use Rattle.cbor_decode_as.specs.Begins.{TakesBeginning};
+ghost use Rattle.cbor_decode_as.specs.Begins.{MemoryForOther, TakesBeginning};
 ghost use Rattle.cbor_decode_as.specs.BeginsEnum.{TakesPartsHead, TakesVariantHead};
-ghost use Rattle.cbor_io.specs.declared.error.ErrorCode.TheVariants.{ArrayTooLong};
+ghost use Rattle.cbor_io.specs.declared.error.ErrorCode.TheVariants.{ArrayTooLong, OutOfMemory};
 ghost use Rattle.cbor_decode_as.specs.Cases.{FormAlone, IsEnumCode, HasCase};
 ghost use Rattle.cbor_decode_as.specs.Cases.{enum_cases, unit_cases};
 ghost use Rattle.cbor_decode_as.specs.Enums.{IsNothing};
@@ -57,6 +59,7 @@ pub fn peek<R: Source>(de: &mut Deserializer<R>) -> std::result::Result<Option<u
 #[inline(never)]
 pub fn error_of<R: Source>(de: &mut Deserializer<R>, refusal: ReadError) -> Error
     ensures reports { IsErrorOf refusal Kept result }
+    ensures memory { why refusal ≢ reading.OutOfMemory → code_of result ≢ OutOfMemory }
     ensures source { de.new.decoder.source ≡ de.old.decoder.source }
     ensures settings { SameSettings de.old.decoder de.new.decoder }
 {
@@ -89,6 +92,8 @@ pub fn map_head<R: Source>(de: &mut Deserializer<R>) -> Result<Remaining>
         (R.source de.old.decoder.source) (R.source de.new.decoder.source)
         de.new.decoder.levels result }
     ensures no_form { IfErr result (λ e. ReportsNoForm (code_of e)) }
+    ensures memory { IfErr result (MemoryForOther kind.Map de.old.decoder.levels
+        (R.source de.old.decoder.source)) }
     ensures inside { IfOk result (λ r. de.new.decoder.levels < de.old.decoder.levels) }
     ensures outer { OnErr result (de.new.decoder.levels ≡ de.old.decoder.levels) }
     ensures formats { de.new.decoder.formats ≡ de.old.decoder.formats }
@@ -103,6 +108,7 @@ pub fn end_map<R: Source>(de: &mut Deserializer<R>, remaining: Remaining) -> Res
     ensures read { TakesMapEnd R.refusals remaining
         (R.source de.old.decoder.source) (R.source de.new.decoder.source) result }
     ensures no_form { IfErr result (λ e. ReportsNoForm (code_of e)) }
+    ensures memory { IfErr result (λ e. code_of e ≢ OutOfMemory) }
     ensures settings { SameSettings de.old.decoder de.new.decoder }
 {
     cbor_decode_as::collection::end_map(&mut de.decoder, remaining)

@@ -1,17 +1,18 @@
 //! Structs of named fields, which are read from maps (RFC 7049, section 2.1, major type 5).
 
-ghost use Rattle.std.specs.Prelude.{◌≡◌, ◌<◌, true, false, length, IfOk, IfErr, IfSome};
+ghost use Rattle.std.specs.Prelude.{◌≡◌, ◌≢◌, ◌<◌, true, false, length, IfOk, IfErr, IfSome};
 ghost use Rattle.std.specs.Prelude.{Some};
 ghost use Rattle.std.specs.Option.{is_some};
 ghost use Rattle.std.specs.Borrow.{sem, RestsIfErr};
 ghost use Rattle.cbor_io.specs.Error.{code_of, offset_of, IsMessageOf};
 ghost use Rattle.cbor_io.specs.declared.error.Error.{Error};
 ghost use Rattle.cbor_model.specs.Reader.{item_at};
+ghost use Rattle.cbor_read.specs.Source.{asks_for};
 ghost use Rattle.cbor_decode.specs.declared.cursor.Remaining.TheVariants.{Counted};
 ghost use Rattle.cbor_decode.specs.Gives.{Step, ReportsNoForm};
 ghost use Rattle.cbor_decode.specs.declared.head.Head.TheVariants as kind;
 ghost use Rattle.cbor_decode_as.specs.Accesses.{size_of};
-ghost use Rattle.cbor_io.specs.declared.error.ErrorCode.TheVariants.{WrongStructFormat};
+ghost use Rattle.cbor_io.specs.declared.error.ErrorCode.TheVariants.{OutOfMemory, WrongStructFormat};
 ghost use Rattle.cbor_decode_as.specs.Cases.{FormAlone, HasCase, ReportsBadKey, key_cases};
 ghost use Rattle.cbor_decode_as.specs.Identifiers.{texts};
 ghost use Rattle.cbor_decode_as.specs.MapAccesses.{TakesMapEnd};
@@ -68,6 +69,7 @@ impl<R: Source> Deserializer<R> {
         ensures unopened { IfErr result
             (access.RefusesBeginning R.source R.refusals kind.Map self.old) }
         ensures no_form { IfErr result (λ e. ReportsNoForm (code_of e)) }
+        ensures memory { IfErr result (access.MemoryForOther R.source kind.Map self.old) }
         ensures taken { IfOk result (λ m. call.Advances R.source self.old m.de.now) }
         ensures settings { IfOk result
             (λ m. call.Within self.old.decoder.levels m.outer self.old m.de.now) }
@@ -183,6 +185,9 @@ impl<'a, R: Source> StructAccess<'a, R> {
         ensures read { call.TakesItem R.source R.refusals
             (V.reads (context self.old.de.now.decoder.formats R.lends))
             self.old.de.now self.new.de.now result }
+        ensures memory { IfErr result
+            (call.MemoryFor R.source (V.asks_memory (asks_for R.refusals R.lends))
+            (V.reads (context self.old.de.now.decoder.formats R.lends)) self.old.de.now) }
         ensures form { IfErr result (call.MayReport R.source V.wrong_forms self.old.de.now) }
         ensures due { IfOk result (λ v. self.new.value_due ≡ false) }
         ensures settings { call.StaysInside self.old.outer self.old.de.now self.new.de.now result }
@@ -380,6 +385,7 @@ impl<'a, R: Source> StructAccess<'a, R> {
             (R.source self.entry.de.now.decoder.source)
             (R.source self.exit.0.now.decoder.source) result }
         ensures no_form { IfErr result (λ e. ReportsNoForm (code_of e)) }
+        ensures memory { IfErr result (λ e. code_of e ≢ OutOfMemory) }
         ensures settings { call.BackTo self.entry.outer self.entry.de.now self.exit.0.now }
     {
         let StructAccess {

@@ -1,7 +1,8 @@
 //! Tags (RFC 7049, section 2.4).
 
-ghost use Rattle.std.specs.Prelude.{◌≡◌, ◌+◌, ◌^◌, ◌<◌, IfOk, IfErr, IfSome};
+ghost use Rattle.std.specs.Prelude.{◌≡◌, ◌≢◌, ◌+◌, ◌^◌, ◌<◌, IfOk, IfErr, IfSome};
 ghost use Rattle.cbor_io.specs.Error.{code_of};
+ghost use Rattle.cbor_io.specs.declared.error.ErrorCode.TheVariants.{OutOfMemory};
 ghost use Rattle.cbor_decode.specs.Gives.{ReportsNoForm};
 ghost use Rattle.cbor_decode_as.specs.Tags.{ReadsTag, LevelsBehind, TagIs};
 ghost use Rattle.cbor_decode_as.specs.Takes.{formats_of};
@@ -36,6 +37,7 @@ impl<R: Source> Deserializer<R> {
             TagIs (formats_of self.old.decoder.formats) self.old.decoder.levels n
             (R.source self.old.decoder.source) (R.source self.new.decoder.source))) }
         ensures no_form { IfErr result (λ e. ReportsNoForm (code_of e)) }
+        ensures memory { IfErr result (λ e. code_of e ≢ OutOfMemory) }
         ensures levels { LevelsBehind result self.old.decoder.levels self.new.decoder.levels }
         ensures formats { self.new.decoder.formats ≡ self.old.decoder.formats }
     {

@@ -12,7 +12,7 @@ use Rattle.cbor_decode.specs.Heads.{head_at, opening_at, simple_head}
 use Rattle.cbor_decode.specs.declared.head.Head.{Head}
 use Rattle.cbor_decode.specs.declared.head.Head.TheVariants.{Float}
 use Rattle.cbor_decode.specs.declared.refusal.Refused.{Refused}
-use Rattle.cbor_decode.proofs.Calls.{hand_step}
+use Rattle.cbor_decode.proofs.SourceCalls.{hand_step}
 use Rattle.cbor_decode.proofs.Heads.{first_simple}
 use Rattle.cbor_decode.proofs.Steps.{step_then, stopped_then}
 

@@ -17,7 +17,7 @@ use Rattle.cbor_decode.specs.Cursor.{ended_at}
 use Rattle.cbor_decode.specs.Gives.{FailsBy, Step, ReportsIo, Stops, Stopped, IsAt}
 use Rattle.cbor_decode.specs.Heads.{end_of, end_code, remaining_of}
 use Rattle.cbor_decode.proofs.Steps.{step_same}
-use Rattle.cbor_decode.proofs.Calls.{next_took, next_step, kept_stops, end_stops, fault_stops, reports_end}
+use Rattle.cbor_decode.proofs.SourceCalls.{next_took, next_step, kept_stops, end_stops, fault_stops, reports_end}
 
 -- ---- a declared count
 

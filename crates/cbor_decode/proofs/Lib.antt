@@ -1,7 +1,7 @@
 pub mod Memory
 pub mod Asked
 pub mod Steps
-pub mod Calls
+pub mod SourceCalls
 pub mod Peeked
 pub mod Ended
 pub mod Heads

@@ -76,8 +76,8 @@ module _ {A B C D : Type 0} (p : A → B) (w : C → D) (ps : Parts A C) (qs : P
 
 -- ---- items
 
-abbrev both : Raw × Raw → Val × Val
-both kv = (value kv.0, value kv.1)
+abbrev pair_value : Raw × Raw → Val × Val
+pair_value kv = (value kv.0, value kv.1)
 
 -- what is made of a part that is seen
 seen_made : {A B C D : Type 0} (h : A → B) (k : C → D) (f : A → C) (g : B → D) (r : Reads A) → ((a : A) → g (h a) ≡ k (f a)) → (along h r >>= (λ x. Ok (g x.0, x.1))) ≡ along k (r >>= (λ x. Ok (f x.0, x.1)))
@@ -98,11 +98,11 @@ module _ (f : Formats) (l : Limits) where
   unfolding value
   items_seen p q same = record { ends = refl; part = same; none = refl; add = λ r rs. refl }
 
-  value_second : (k : Raw × List ℕ) (r : Reads Raw) → (along value r >>= (λ v. Ok ((value k.0, v.0), v.1))) ≡ along both (r >>= (λ v. Ok ((k.0, v.0), v.1)))
+  value_second : (k : Raw × List ℕ) (r : Reads Raw) → (along value r >>= (λ v. Ok ((value k.0, v.0), v.1))) ≡ along pair_value (r >>= (λ v. Ok ((k.0, v.0), v.1)))
   value_second k (Ok v) = refl
   value_second k (Err e) = refl
 
-  key_first : (p : List ℕ → Reads Raw) (q : List ℕ → Reads Val) → Same p q → (r : Reads Raw) → (along value r >>= (λ k. q k.1 >>= (λ v. Ok ((k.0, v.0), v.1)))) ≡ along both (r >>= (λ k. p k.1 >>= (λ v. Ok ((k.0, v.0), v.1))))
+  key_first : (p : List ℕ → Reads Raw) (q : List ℕ → Reads Val) → Same p q → (r : Reads Raw) → (along value r >>= (λ k. q k.1 >>= (λ v. Ok ((k.0, v.0), v.1)))) ≡ along pair_value (r >>= (λ k. p k.1 >>= (λ v. Ok ((k.0, v.0), v.1))))
   key_first p q same (Ok k) = rw (same k.1) (value_second k (p k.1))
   key_first p q same (Err e) = refl
 
@@ -111,11 +111,11 @@ module _ (f : Formats) (l : Limits) where
   key_seen allows p q same [] = refl
   key_seen allows p q same (b ∷ bs) = along_cond value (allows b) _ _ _ _ (same (b ∷ bs)) refl
 
-  pair_seen : (allows : ℕ → Bool) (p : List ℕ → Reads Raw) (q : List ℕ → Reads Val) → Same p q → (bs : List ℕ) → pair_at allows q bs ≡ along both (pair_at allows p bs)
+  pair_seen : (allows : ℕ → Bool) (p : List ℕ → Reads Raw) (q : List ℕ → Reads Val) → Same p q → (bs : List ℕ) → pair_at allows q bs ≡ along pair_value (pair_at allows p bs)
   unfolding pair_at
   pair_seen allows p q same bs = rw (key_seen allows p q same bs) (key_first p q same (key_at allows p bs))
 
-  pairs_seen : (p : List ℕ → Reads Raw) (q : List ℕ → Reads Val) → Same p q → Seen both model.pairs (pairs_of (raws f l) p) (pairs_of (values f l) q)
+  pairs_seen : (p : List ℕ → Reads Raw) (q : List ℕ → Reads Val) → Same p q → Seen pair_value model.pairs (pairs_of (raws f l) p) (pairs_of (values f l) q)
   unfolding value
   pairs_seen p q same = record { ends = refl; part = pair_seen (values f l).allows p q same; none = refl; add = λ kv others. refl }
 
@@ -134,7 +134,7 @@ module _ (f : Formats) (l : Limits) where
   map_seen None (Some q) same n r bs = absurd same
   map_seen (Some p) None same n r bs = absurd same
   map_seen (Some p) (Some q) same n r bs =
-      rw (parts_seen both model.pairs (pairs_of (raws f l) p) (pairs_of (values f l) q) (pairs_seen p q same) (suc (length bs)) r bs)
+      rw (parts_seen pair_value model.pairs (pairs_of (raws f l) p) (pairs_of (values f l) q) (pairs_seen p q same) (suc (length bs)) r bs)
       (seen_made model.pairs value (raw.map n) (λ (ps : Pairs → Pairs). plain.map (ps plain.no_pairs)) (parts_at (pairs_of (raws f l) p) r bs) (λ ps. refl))
 
   tag_seen : (inner : Option (List ℕ → Reads Raw)) (inner' : Option (List ℕ → Reads Val)) → SameInside inner inner' → (w : HeadWidth) (n : ℕ) (bs : List ℕ) → tag_at (values f l) inner' w n bs ≡ along value (tag_at (raws f l) inner w n bs)

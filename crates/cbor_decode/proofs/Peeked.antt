@@ -12,7 +12,7 @@ use Rattle.cbor_decode.specs.declared.cursor.Collection.{Collection}
 use Rattle.cbor_decode.specs.Gives.{Limits, Step, Stopped, IsAt}
 use Rattle.cbor_decode.specs.Heads.{end_of, end_code}
 use Rattle.cbor_decode.proofs.Steps.{step_then, kept_step, none_step}
-use Rattle.cbor_decode.proofs.Calls.{end_stops, reports_end}
+use Rattle.cbor_decode.proofs.SourceCalls.{end_stops, reports_end}
 
 -- what is said of the byte at the front
 abbrev Front : Input → Option ℕ → Type 0

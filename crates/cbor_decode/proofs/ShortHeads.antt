@@ -9,7 +9,7 @@ use Rattle.cbor_io.specs.declared.head.Major.TheVariants.{Simple}
 use Rattle.cbor_io.specs.Head.{major_number}
 use Rattle.cbor_decode.specs.Gives.{Step}
 use Rattle.cbor_decode.specs.Heads.{opening_at, head_at}
-use Rattle.cbor_decode.proofs.Calls.{hand_step}
+use Rattle.cbor_decode.proofs.SourceCalls.{hand_step}
 use Rattle.cbor_decode.proofs.Heads.{definite_head, first_is}
 use Rattle.cbor_decode.proofs.Steps.{step_map}
 

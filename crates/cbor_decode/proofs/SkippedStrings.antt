@@ -22,7 +22,7 @@ use Rattle.cbor_decode.specs.Gives.{Limits, limits, values, Step, Stopped, Gives
 use Rattle.cbor_decode.specs.Heads.{joined_of, passed}
 use Rattle.cbor_decode.specs.Strings.{bad_of, checked_by}
 use Rattle.cbor_decode.proofs.Steps.{step_map, taken_step, refused_stops, gives_seen}
-use Rattle.cbor_decode.proofs.Calls.{source_stops}
+use Rattle.cbor_decode.proofs.SourceCalls.{source_stops}
 use Rattle.cbor_decode.proofs.Inside.{bytes_read, bytes_stop, chunks_read, chunks_stop}
 use Rattle.cbor_decode.proofs.Texts.{no_room, has_room, text_stop, text_joined, text_fault}
 

@@ -8,7 +8,7 @@ use Rattle.cbor_io.specs.declared.read_error.ReadError.{ReadError}
 use Rattle.cbor_io.specs.declared.read_error.ReadErrorCode.{ReadErrorCode}
 use Rattle.cbor_io.specs.declared.read_error.ReadErrorCode.TheVariants as reading
 use Rattle.cbor_io.specs.ReadError.{why, place, error_code, HasNoPlace}
-use Rattle.cbor_read.specs.Source.{Input, TookKept, TookSome, Stays, Refused, RefusedByte, TooFew, AtLimit, IsOfSource}
+use Rattle.cbor_read.specs.Source.{Input, TookKept, TookSome, Stays, RefusedCall, RefusedByte, TooFew, AtLimit, IsOfSource}
 use Rattle.cbor_read.proofs.facts.Sources.{kept_none, kept_some, some_then}
 use Rattle.cbor_decode.specs.declared.refusal.Refused.{Refused as Reason}
 use Rattle.cbor_decode.specs.declared.refusal.Refused.TheVariants as refused
@@ -265,7 +265,7 @@ refused_by allowed s t n reading.RecursionLimitExceeded at read bs reports end o
 refused_by allowed s t n reading.WrongStructFormat at read bs reports end ok kind room nowhere ends limit = absurd kind
 refused_by allowed s t n reading.OutOfMemory at read bs reports end ok kind room nowhere ends limit = nowhere tt
 
-pub refused_stops : {A : Type 0} (allowed : ReadErrorCode → Bool) (s t : Input) (n : ℕ) (e : ReadError) (read : Limits → List ℕ → Reads A) → ((l : Limits) (bs : List ℕ) → length bs < n → read l bs ≡ Err ended) → why e ≢ reading.ScratchTooSmall → Refused allowed s t n e → Stops allowed read s e
+pub refused_stops : {A : Type 0} (allowed : ReadErrorCode → Bool) (s t : Input) (n : ℕ) (e : ReadError) (read : Limits → List ℕ → Reads A) → ((l : Limits) (bs : List ℕ) → length bs < n → read l bs ≡ Err ended) → why e ≢ reading.ScratchTooSmall → RefusedCall allowed s t n e → Stops allowed read s e
 refused_stops allowed s t n e read end room h = record {
   reported = λ bs reports.
       refused_by allowed s t n (why e) (place e) (read (limits s bs) bs) bs reports (end (limits s bs) bs) h.code h.kind room h.nowhere h.ended (λ q. no_limit s t (place e) bs reports h.moved (h.limit q));

@@ -14,7 +14,7 @@ use Rattle.cbor_read.specs.Source.{Input, TookKept}
 use Rattle.cbor_decode.specs.Gives.{Step}
 use Rattle.cbor_decode.specs.Heads.{opening_at, head_at, simple_head}
 use Rattle.cbor_decode.specs.declared.head.Head.TheVariants.{Bool as Boolean}
-use Rattle.cbor_decode.proofs.Calls.{hand_step}
+use Rattle.cbor_decode.proofs.SourceCalls.{hand_step}
 use Rattle.cbor_decode.proofs.Heads.{definite_head, first_is, first_simple}
 use Rattle.cbor_decode.proofs.Steps.{kept_step, step_map}
 

@@ -47,7 +47,7 @@ pub fn push_any<T: Drop>(items: &mut Vec<T>, item: T, remaining: Remaining) -> D
 #[inline(never)]
 fn grow<T>(items: &mut Vec<T>, remaining: Remaining) -> Done<()>
     ensures items { items.new.items ≡ items.old.items }
-    ensures room { OnOk result (vec_len items.new < vec_capacity items.new) }
+    ensures spare { OnOk result (vec_len items.new < vec_capacity items.new) }
     ensures refused { IfErr result (λ r. r ≡ OutOfMemory) }
 {
     match remaining {

@@ -104,7 +104,7 @@ impl<R: Source> Decoder<R> {
     }
 
     /// Takes the end of the input.
-    #[tactic(auto, using(crate::proofs::Calls::trailing_stops))]
+    #[tactic(auto, using(crate::proofs::SourceCalls::trailing_stops))]
     pub fn ended(&mut self) -> Done<()>
         ensures read { step.Gives R.source R.refusals (λ u. u) (λ l. end_at)
             self.old self.new result }

@@ -1,7 +1,7 @@
 -- Strings and names, owned and lent.
 pub mod PassedStrings
 pub mod PassedLent
-pub mod Contents
+pub mod StringContents
 pub mod MemoryAsked
 pub mod Lending
 pub mod ByteStrings

@@ -9,11 +9,12 @@ use Rattle.cbor_model.specs.Refusal.{end_in_array}
 use Rattle.cbor_model.specs.Reader.{Reads, ◌>>=◌, next_at, parts_at, items_of, item_at}
 use Rattle.cbor_model.specs.Reader as reader
 use Rattle.cbor_io.specs.declared.error.Error.{Error}
+use Rattle.cbor_io.specs.declared.error.ErrorCode.TheVariants.{OutOfMemory}
 use Rattle.cbor_io.specs.declared.read_error.ReadErrorCode.{ReadErrorCode}
 use Rattle.cbor_io.specs.Error.{code_of, offset_of}
 use Rattle.cbor_read.specs.Source.{Input, TookSome}
 use Rattle.cbor_decode.specs.Cursor.{behind_next, ended_at}
-use Rattle.cbor_decode.specs.Gives.{Limits, Step}
+use Rattle.cbor_decode.specs.Gives.{Limits, Reports, Step, limits}
 use Rattle.cbor_decode.specs.Heads.{remaining_of}
 use Rattle.cbor_decode.specs.declared.cursor.Remaining.{Remaining}
 use Rattle.cbor_decode.specs.declared.cursor.Remaining.TheVariants.{Counted, ToBreak}
@@ -90,6 +91,14 @@ TakesPart refusals f reads levels remaining behind s t (Ok x) = Step s t
 TakesPart {A} refusals f reads levels remaining behind s t (Err e) =
     Refuses refusals s t (code_of e) (offset_of e)
     (λ l bs. (x : A) (after : reader.Remaining) (rest : List ℕ) → IsNextItem reads f levels (remaining_of remaining) after x l bs rest → ⊥)
+
+-- Where memory ran out, the next item that is read as something is one for which memory may be asked.
+abbrev pub MemoryForNext : {A : Type 0} → (Raw → Type 0) → Formats → (Raw → A → Type 0) → ℕ
+    → Remaining → Input → Error → Type 0
+MemoryForNext {A} asks f reads levels remaining s e = code_of e ≡ OutOfMemory
+    → (bs : List ℕ) → Reports s bs → (x : A) (after : reader.Remaining) (rest : List ℕ)
+    → (next : IsNextItem reads f levels (remaining_of remaining) after x (limits s bs) bs rest)
+    → asks next.item.item
 
 -- how many more items can follow: a loop over them ends
 abbrev pub most_left : Remaining → Input → ℕ

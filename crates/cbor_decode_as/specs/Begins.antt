@@ -1,16 +1,17 @@
 -- The head of an array or a map, whatever follows it.
-use Rattle.std.specs.Prelude.{◌≡◌, ℕ, ◌+◌, Bool, List, [], ◌∷◌, Result, Ok, Err, refl}
+use Rattle.std.specs.Prelude.{◌≡◌, ◌≢◌, ℕ, ◌+◌, Bool, List, [], ◌∷◌, Result, Ok, Err, refl, Some}
 use Rattle.cbor_model.specs.Reader.{byte_at, number_behind}
 use Rattle.cbor_io.specs.declared.error.Error.{Error}
+use Rattle.cbor_io.specs.declared.error.ErrorCode.TheVariants.{OutOfMemory}
 use Rattle.cbor_io.specs.declared.read_error.ReadErrorCode.{ReadErrorCode}
 use Rattle.cbor_io.specs.Error.{code_of, offset_of}
 use Rattle.cbor_read.specs.Source.{Input}
-use Rattle.cbor_decode.specs.Gives.{Step}
+use Rattle.cbor_decode.specs.Gives.{Step, Reports}
 use Rattle.cbor_decode.specs.Heads.{head_at, head_of}
 use Rattle.cbor_decode.specs.declared.cursor.Remaining.{Remaining}
 use Rattle.cbor_decode.specs.declared.cursor.Remaining.TheVariants.{Counted, ToBreak}
 use Rattle.cbor_decode.specs.declared.head.Head.{Head}
-use Rattle.cbor_decode.specs.declared.head.Head.TheVariants.{Array, Map}
+use Rattle.cbor_decode.specs.declared.head.Head.TheVariants.{Array, Map, Break, Text}
 use Rattle.cbor_decode_as.specs.TaggedHeads.{opened_at}
 use Rattle.cbor_decode_as.specs.Takes.{Refuses}
 
@@ -38,6 +39,22 @@ TakesBeginning kind refusals levels s t left (Ok remaining) =
     Step s t (λ l bs rest. Begins kind levels left remaining bs rest)
 TakesBeginning kind refusals levels s t left (Err e) = RefusesBeginning kind refusals levels s t e
 
+-- ---- memory
+
+-- Behind the heads of some tags stands a head of another kind, and no break.
+pub record OtherBegins (kind : Remaining → Head) (levels : ℕ) (bs : List ℕ) : Type 0 where
+  pub left : ℕ
+  pub head : Head
+  pub rest : List ℕ
+  pub is : opened_at levels bs ≡ Ok ((left, head), rest)
+  pub other : (remaining : Remaining) → head ≢ kind remaining
+  pub unbroken : head ≢ Break
+
+-- Where memory ran out, it was asked for the message on an item of another kind.
+abbrev pub MemoryForOther : (Remaining → Head) → ℕ → Input → Error → Type 0
+MemoryForOther kind levels s e = code_of e ≡ OutOfMemory → (bs : List ℕ) → Reports s bs
+    → OtherBegins kind levels bs
+
 -- ---- examples
 
 -- 82 01 begins an array of two items, though the second isn't there
@@ -63,3 +80,20 @@ one_pair = refl
 no_head : NoneBegins Array 127 (0x1c ∷ [])
 unfolding opened_at byte_at head_at head_of number_behind
 no_head left remaining rest is = absurd cc
+
+-- 61 61 begins a text, and no array
+a_text : OtherBegins Array 127 (0x61 ∷ 0x61 ∷ [])
+unfolding opened_at byte_at head_at head_of number_behind
+a_text = record {
+  left = 127;
+  head = Text (Some 1);
+  rest = 0x61 ∷ [];
+  is = refl;
+  other = λ remaining same. absurd cc;
+  unbroken = λ same. absurd cc;
+}
+
+-- of an array of which no more is there no message is made
+no_text : OtherBegins Array 127 [] → ⊥
+unfolding opened_at byte_at
+no_text other = absurd cc

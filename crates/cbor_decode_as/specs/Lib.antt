@@ -6,7 +6,7 @@ pub mod Accesses
 pub mod Arrays
 pub mod Begins
 pub mod BeginsEnum
-pub mod Calls
+pub mod DecoderCalls
 pub mod Cases
 pub mod Enums
 pub mod Identifiers

@@ -9,11 +9,12 @@ use Rattle.cbor_model.specs.Refusal.{end_in_map}
 use Rattle.cbor_model.specs.Reader.{Reads, ◌>>=◌, next_at, key_at, parts_at, pairs_of, item_at}
 use Rattle.cbor_model.specs.Reader as reader
 use Rattle.cbor_io.specs.declared.error.Error.{Error}
+use Rattle.cbor_io.specs.declared.error.ErrorCode.TheVariants.{OutOfMemory}
 use Rattle.cbor_io.specs.declared.read_error.ReadErrorCode.{ReadErrorCode}
 use Rattle.cbor_io.specs.Error.{code_of, offset_of}
 use Rattle.cbor_read.specs.Source.{Input, TookSome}
 use Rattle.cbor_decode.specs.Cursor.{ended_at}
-use Rattle.cbor_decode.specs.Gives.{Limits, Step}
+use Rattle.cbor_decode.specs.Gives.{Limits, Step, Reports, limits}
 use Rattle.cbor_decode.specs.Heads.{remaining_of}
 use Rattle.cbor_decode.specs.declared.cursor.Remaining.{Remaining}
 use Rattle.cbor_decode_as.specs.Maps.{AsMap}
@@ -102,6 +103,14 @@ TakesKey {K} refusals f reads levels remaining behind s t (Err e) =
     Refuses refusals s t (code_of e) (offset_of e)
     (λ l bs. (next : Option K) (after : reader.Remaining) (rest : List ℕ)
     → IsKey reads f levels (remaining_of remaining) after next l bs rest → ⊥)
+
+-- Where memory ran out, the next key that is read as something is one for which memory may be asked.
+abbrev pub MemoryForKey : {K : Type 0} → (Raw → Type 0) → Formats → (Raw → K → Type 0) → ℕ
+    → Remaining → Input → Error → Type 0
+MemoryForKey {K} asks f reads levels remaining s e = code_of e ≡ OutOfMemory
+    → (bs : List ℕ) → Reports s bs → (k : K) (after : reader.Remaining) (rest : List ℕ)
+    → (next : IsNextKey reads f levels (remaining_of remaining) after k (limits s bs) bs rest)
+    → asks next.key.item
 
 -- The map's end was taken; or the error reports why not, and some bytes were taken.
 abbrev pub TakesMapEnd : (ReadErrorCode → Bool) → Remaining → Input → Input

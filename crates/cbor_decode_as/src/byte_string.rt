@@ -8,7 +8,7 @@ ghost use Rattle.cbor_decode.specs.Gives.{ReportsNoForm, ReportsNoKey};
 ghost use Rattle.cbor_decode_as.specs.Strings.{IsByteString, SeeksItem, SeeksWhole};
 ghost use Rattle.cbor_decode_as.specs.Takes.{formats_of};
 ghost use Rattle.cbor_decode.specs.Steps as step;
-ghost use Rattle.cbor_decode_as.specs.Calls as call;
+ghost use Rattle.cbor_decode_as.specs.DecoderCalls as call;
 
 use crate::head::pass_over;
 use crate::identifier::{Why, unnamed};

@@ -5,7 +5,7 @@ ghost use Rattle.cbor_model.specs.Readable.{PassesTags};
 ghost use Rattle.cbor_decode.specs.Decoder.{SameSettings};
 ghost use Rattle.cbor_decode_as.specs.Strings.{IsCharacter};
 ghost use Rattle.cbor_decode.specs.Steps as step;
-ghost use Rattle.cbor_decode_as.specs.Calls as call;
+ghost use Rattle.cbor_decode_as.specs.DecoderCalls as call;
 
 use cbor_decode::Decoder;
 use cbor_read::Source;

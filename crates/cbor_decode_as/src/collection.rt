@@ -1,17 +1,18 @@
 //! Arrays and maps around what they hold (RFC 7049, section 2.1, major types 4 and 5).
 
-ghost use Rattle.std.specs.Prelude.{◌≡◌, ◌<◌, IfOk, IfErr, IfSome, OnOk, OnErr, OnSome, Ok};
+ghost use Rattle.std.specs.Prelude.{◌≡◌, ◌≢◌, ◌<◌, IfOk, IfErr, IfSome, OnOk, OnErr, OnSome, Ok};
 ghost use Rattle.std.specs.Prelude.{MatchOption, true, false};
 ghost use Rattle.cbor_io.specs.Error.{code_of};
 ghost use Rattle.cbor_decode.specs.Decoder.{SameSettings};
 ghost use Rattle.cbor_decode.specs.Cursor.{Counts};
-ghost use Rattle.cbor_decode.specs.Gives.{ReportsNoForm, IsAt, IsErrorOf};
+ghost use Rattle.cbor_decode.specs.Gives.{ReportsNoForm, ReportsNoMemory, IsAt, IsErrorOf};
 ghost use Rattle.cbor_decode_as.specs.Accesses.{TakesHead, TakesMore, TakesEnd};
-ghost use Rattle.cbor_decode_as.specs.Begins.{TakesBeginning};
+ghost use Rattle.cbor_decode_as.specs.Begins.{MemoryForOther, TakesBeginning};
 ghost use Rattle.cbor_decode_as.specs.Takes.{formats_of, OnceMade};
 ghost use Rattle.cbor_model.specs.Formats.{may_begin_key};
 ghost use Rattle.cbor_decode.specs.declared.refusal.Refused.TheVariants.{Kept};
 ghost use Rattle.cbor_io.specs.declared.error.Error.{Error};
+ghost use Rattle.cbor_io.specs.declared.error.ErrorCode.TheVariants.{OutOfMemory};
 ghost use Rattle.cbor_decode_as.specs.Cases.{HasCase, ReportsBadKey, key_cases};
 ghost use Rattle.cbor_decode_as.specs.MapAccesses.{TakesMapHead, TakesMorePairs, TakesMapEnd};
 ghost use Rattle.cbor_decode_as.specs.MapAccesses.{key_front};
@@ -66,6 +67,8 @@ pub fn array_head<R: Source>(decoder: &mut Decoder<R>) -> Result<Remaining>
         decoder.new.levels result }
     ensures taken { OnOk result (step.Advances R.source decoder.old decoder.new) }
     ensures no_form { IfErr result (λ e. ReportsNoForm (code_of e)) }
+    ensures memory { IfErr result (MemoryForOther kind.Array decoder.old.levels
+        (R.source decoder.old.source)) }
     ensures inside { IfOk result (λ r. decoder.new.levels < decoder.old.levels) }
     ensures outer { OnErr result (decoder.new.levels ≡ decoder.old.levels) }
     ensures formats { decoder.new.formats ≡ decoder.old.formats }
@@ -87,6 +90,8 @@ fn array_head_slow<R: Source>(decoder: &mut Decoder<R>) -> Result<Remaining>
         decoder.new.levels result }
     ensures taken { OnOk result (step.Advances R.source decoder.old decoder.new) }
     ensures no_form { IfErr result (λ e. ReportsNoForm (code_of e)) }
+    ensures memory { IfErr result (MemoryForOther kind.Array decoder.old.levels
+        (R.source decoder.old.source)) }
     ensures inside { IfOk result (λ r. decoder.new.levels < decoder.old.levels) }
     ensures outer { OnErr result (decoder.new.levels ≡ decoder.old.levels) }
     ensures formats { decoder.new.formats ≡ decoder.old.formats }
@@ -120,6 +125,7 @@ pub fn more_items<R: Source>(decoder: &mut Decoder<R>, remaining: &mut Remaining
         (R.source decoder.old.source) (R.source decoder.new.source) result }
     ensures counts { IfOk result (λ more. Counts remaining.old more remaining.new) }
     ensures no_form { IfErr result (λ e. ReportsNoForm (code_of e)) }
+    ensures memory { IfErr result (λ e. code_of e ≢ OutOfMemory) }
     ensures settings { SameSettings decoder.old decoder.new }
 {
     match decoder.more(remaining, Collection::Array) {
@@ -134,6 +140,7 @@ pub fn end_array<R: Source>(decoder: &mut Decoder<R>, remaining: Remaining) -> R
     ensures read { TakesEnd R.refusals remaining
         (R.source decoder.old.source) (R.source decoder.new.source) result }
     ensures no_form { IfErr result (λ e. ReportsNoForm (code_of e)) }
+    ensures memory { IfErr result (λ e. code_of e ≢ OutOfMemory) }
     ensures settings { SameSettings decoder.old decoder.new }
 {
     match decoder.end_of(remaining, Collection::Array) {
@@ -184,6 +191,8 @@ pub fn map_head<R: Source>(decoder: &mut Decoder<R>) -> Result<Remaining>
         decoder.new.levels result }
     ensures taken { OnOk result (step.Advances R.source decoder.old decoder.new) }
     ensures no_form { IfErr result (λ e. ReportsNoForm (code_of e)) }
+    ensures memory { IfErr result (MemoryForOther kind.Map decoder.old.levels
+        (R.source decoder.old.source)) }
     ensures inside { IfOk result (λ r. decoder.new.levels < decoder.old.levels) }
     ensures outer { OnErr result (decoder.new.levels ≡ decoder.old.levels) }
     ensures formats { decoder.new.formats ≡ decoder.old.formats }
@@ -205,6 +214,8 @@ fn map_head_slow<R: Source>(decoder: &mut Decoder<R>) -> Result<Remaining>
         decoder.new.levels result }
     ensures taken { OnOk result (step.Advances R.source decoder.old decoder.new) }
     ensures no_form { IfErr result (λ e. ReportsNoForm (code_of e)) }
+    ensures memory { IfErr result (MemoryForOther kind.Map decoder.old.levels
+        (R.source decoder.old.source)) }
     ensures inside { IfOk result (λ r. decoder.new.levels < decoder.old.levels) }
     ensures outer { OnErr result (decoder.new.levels ≡ decoder.old.levels) }
     ensures formats { decoder.new.formats ≡ decoder.old.formats }
@@ -236,6 +247,7 @@ fn map_head_slow<R: Source>(decoder: &mut Decoder<R>) -> Result<Remaining>
 pub(crate) fn key_begins<R: Source>(decoder: &mut Decoder<R>) -> Done<()>
     ensures read { step.Gives R.source R.refusals (λ u. u)
         (λ l. key_front (formats_of decoder.old.formats)) decoder.old decoder.new result }
+    ensures memory { IfErr result (ReportsNoMemory decoder.new.refusal) }
     ensures settings { SameSettings decoder.old decoder.new }
 {
     match decoder.source.ahead().first().copied() {
@@ -250,6 +262,7 @@ pub(crate) fn key_begins<R: Source>(decoder: &mut Decoder<R>) -> Done<()>
 fn key_begins_peeked<R: Source>(decoder: &mut Decoder<R>) -> Done<()>
     ensures read { step.Gives R.source R.refusals (λ u. u)
         (λ l. key_front (formats_of decoder.old.formats)) decoder.old decoder.new result }
+    ensures memory { IfErr result (ReportsNoMemory decoder.new.refusal) }
     ensures settings { SameSettings decoder.old decoder.new }
 {
     match decoder.source.peek() {
@@ -294,6 +307,7 @@ pub fn more_pairs<R: Source>(decoder: &mut Decoder<R>, remaining: &mut Remaining
     ensures bad_key { IfErr result (λ r. (e : Error) → IsErrorOf decoder.new.refusal r e
         → ReportsBadKey R.refusals (formats_of decoder.old.formats) remaining.old
         (R.source decoder.old.source) e) }
+    ensures memory { IfErr result (ReportsNoMemory decoder.new.refusal) }
     ensures counts { IfOk result (λ more. Counts remaining.old more remaining.new) }
     ensures settings { SameSettings decoder.old decoder.new }
 {
@@ -310,6 +324,7 @@ pub fn end_map<R: Source>(decoder: &mut Decoder<R>, remaining: Remaining) -> Res
     ensures read { TakesMapEnd R.refusals remaining
         (R.source decoder.old.source) (R.source decoder.new.source) result }
     ensures no_form { IfErr result (λ e. ReportsNoForm (code_of e)) }
+    ensures memory { IfErr result (λ e. code_of e ≢ OutOfMemory) }
     ensures settings { SameSettings decoder.old decoder.new }
 {
     match decoder.end_of(remaining, Collection::Map) {

@@ -1,14 +1,14 @@
 //! The content of a variant.
 
-ghost use Rattle.std.specs.Prelude.{◌≡◌, ◌⊎◌, codes, OnOk, IfOk, IfErr};
+ghost use Rattle.std.specs.Prelude.{◌≡◌, ◌≢◌, ◌⊎◌, codes, OnOk, IfOk, IfErr};
 ghost use Rattle.cbor_model.specs.Readable.{PassesTags, IsUnit};
 ghost use Rattle.cbor_model.specs.Refusal.{end_in_array};
 ghost use Rattle.cbor_model.specs.Reader.{next_at};
 ghost use Rattle.cbor_decode.specs.Decoder.{SameSettings};
 ghost use Rattle.cbor_decode.specs.Heads.{remaining_of};
 ghost use Rattle.cbor_io.specs.Error.{code_of, HasNoOffset};
-ghost use Rattle.cbor_decode.specs.Gives.{ReportsNoForm, ReportsNoKey};
-ghost use Rattle.cbor_io.specs.declared.error.ErrorCode.TheVariants.{ArrayTooLong};
+ghost use Rattle.cbor_decode.specs.Gives.{ReportsNoForm, ReportsNoKey, ReportsNoMemory};
+ghost use Rattle.cbor_io.specs.declared.error.ErrorCode.TheVariants.{ArrayTooLong, OutOfMemory};
 ghost use Rattle.cbor_decode_as.specs.Cases.{FormAlone, HasCase, NoItemHere, unit_cases};
 ghost use Rattle.cbor_decode_as.specs.Enums.{IsNothing, IsPart};
 ghost use Rattle.cbor_decode_as.specs.Takes.{ReportsFault, formats_of};
@@ -31,6 +31,7 @@ fn item_comes<R: Source>(decoder: &mut Decoder<R>, remaining: &mut Remaining) ->
         (R.source decoder.old.source) (R.source decoder.new.source)
         decoder.new.refusal result }
     ensures no_key { IfErr result (ReportsNoKey decoder.new.refusal) }
+    ensures memory { IfErr result (ReportsNoMemory decoder.new.refusal) }
     ensures stays { OnOk result ((R.source decoder.new.source).offset
         ≡ (R.source decoder.old.source).offset) }
     ensures settings { SameSettings decoder.old decoder.new }
@@ -67,6 +68,7 @@ pub fn expect_item<R: Source>(
         (λ l. next_at end_in_array (remaining_of remaining.old))
         (R.source decoder.old.source) e
         ⊎ NoItemHere none remaining.old (R.source decoder.old.source) e) }
+    ensures memory { IfErr result (λ e. code_of e ≢ OutOfMemory) }
     ensures settings { SameSettings decoder.old decoder.new }
 {
     match item_comes(decoder, remaining) {

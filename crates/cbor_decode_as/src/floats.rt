@@ -8,7 +8,7 @@ ghost use Rattle.cbor_decode.specs.Gives.{ReportsNoForm};
 ghost use Rattle.cbor_decode_as.specs.Scalars.{IsFloatOf, IsSingleOf};
 ghost use Rattle.cbor_decode_as.specs.TaggedHeads.{RefusesBehind};
 ghost use Rattle.cbor_decode.specs.Steps as step;
-ghost use Rattle.cbor_decode_as.specs.Calls as call;
+ghost use Rattle.cbor_decode_as.specs.DecoderCalls as call;
 
 use crate::exact::{exact_f32, exact_f64};
 use crate::head::{HeadAt, skip_mismatch};

@@ -1,10 +1,12 @@
 //! The head of an item within its tags.
 
-ghost use Rattle.std.specs.Prelude.{◌≡◌, ◌≤◌, IfErr, OnOk};
+ghost use Rattle.std.specs.Prelude.{◌≡◌, ◌≢◌, ◌≤◌, IfErr, OnOk};
 ghost use Rattle.cbor_model.specs.Reader.{item_at};
 ghost use Rattle.cbor_decode.specs.Decoder.{SameSettings};
 ghost use Rattle.cbor_decode.specs.Gives.{ReportsNoForm, ReportsNoKey, ReportsNoMemory};
 ghost use Rattle.cbor_io.specs.Error.{code_of};
+ghost use Rattle.cbor_io.specs.declared.error.ErrorCode.TheVariants.{OutOfMemory};
+ghost use Rattle.cbor_decode.specs.declared.head.Head.TheVariants.{Break};
 ghost use Rattle.cbor_decode.specs.Heads.{HeadGives, opening_at};
 ghost use Rattle.cbor_decode.specs.Heads.{passed};
 ghost use Rattle.cbor_decode.specs.Memory.{MemoryOnly};
@@ -96,6 +98,7 @@ pub(crate) fn tagged_head_inside<R: Source>(decoder: &mut Decoder<R>) -> Done<He
 #[inline(never)]
 pub fn mismatch<R: Source>(decoder: &mut Decoder<R>, head: Head, message: &str) -> Error
     ensures no_form { ReportsNoForm (code_of result) }
+    ensures memory { code_of result ≡ OutOfMemory → head ≢ Break }
     ensures source { decoder.new.source ≡ decoder.old.source }
     ensures settings { SameSettings decoder.old decoder.new }
 {

@@ -15,7 +15,7 @@ ghost use Rattle.cbor_decode_as.specs.Identifiers.{TakesBytesName, TakesName};
 ghost use Rattle.cbor_decode_as.specs.Strings.{IsMadeOf, IsNoKey};
 ghost use Rattle.cbor_decode_as.specs.Takes.{OnceMade};
 ghost use Rattle.cbor_decode.specs.Steps as step;
-ghost use Rattle.cbor_decode_as.specs.Calls as call;
+ghost use Rattle.cbor_decode_as.specs.DecoderCalls as call;
 
 use crate::borrowed::{Unread, bytes_part};
 use crate::scalar::scalar_head;

@@ -9,7 +9,7 @@ ghost use Rattle.cbor_decode.specs.Gives.{ReportsNoForm};
 ghost use Rattle.cbor_decode_as.specs.TaggedHeads.{RefusesBehind};
 ghost use Rattle.cbor_decode_as.specs.Scalars.{IsNumber};
 ghost use Rattle.cbor_decode.specs.Steps as step;
-ghost use Rattle.cbor_decode_as.specs.Calls as call;
+ghost use Rattle.cbor_decode_as.specs.DecoderCalls as call;
 
 use crate::head::{HeadAt, skip_mismatch};
 use crate::scalar::scalar_head;

@@ -6,7 +6,7 @@ ghost use Rattle.cbor_decode.specs.Decoder.{SameSettings};
 ghost use Rattle.cbor_decode_as.specs.Identifiers.{IsLabel, IsMadeBy, IsPlace, NamesNoKey};
 ghost use Rattle.cbor_decode_as.specs.Takes.{OnceMade};
 ghost use Rattle.cbor_decode.specs.Steps as step;
-ghost use Rattle.cbor_decode_as.specs.Calls as call;
+ghost use Rattle.cbor_decode_as.specs.DecoderCalls as call;
 
 use crate::identifier::{Lookup, bytes_name, no_name, text_name};
 use crate::integer::integer;

@@ -7,7 +7,7 @@ ghost use Rattle.cbor_decode.specs.Decoder.{SameSettings, formats_of};
 ghost use Rattle.cbor_decode_as.specs.RawItems.{FindsEnd, IsLentItem, ShowsFront};
 ghost use Rattle.cbor_decode_as.specs.Takes.{context};
 ghost use Rattle.cbor_decode.specs.Steps as step;
-ghost use Rattle.cbor_decode_as.specs.Calls as call;
+ghost use Rattle.cbor_decode_as.specs.DecoderCalls as call;
 
 use cbor_decode::{Decoder, Formats};
 use cbor_io::error::{Error, Result};

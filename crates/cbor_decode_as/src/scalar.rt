@@ -10,7 +10,7 @@ ghost use Rattle.cbor_decode_as.specs.TaggedHeads.{opened_at, opened_inside};
 ghost use Rattle.cbor_decode_as.specs.Scalars.{IsFloatItem};
 ghost use Rattle.cbor_decode_as.specs.Takes.{formats_of};
 ghost use Rattle.cbor_decode.specs.Steps as step;
-ghost use Rattle.cbor_decode_as.specs.Calls as call;
+ghost use Rattle.cbor_decode_as.specs.DecoderCalls as call;
 
 use crate::head::{HeadAt, skip_mismatch, tagged_head_inside, take_head};
 use cbor_decode::{Decoder, Done, Head};

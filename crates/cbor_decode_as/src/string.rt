@@ -13,7 +13,7 @@ ghost use Rattle.cbor_decode_as.specs.Strings.{content_at, KeepsTextOf, SeeksIte
 ghost use Rattle.cbor_decode_as.specs.Strings.{SeeksWhole, ReportsString};
 ghost use Rattle.cbor_decode_as.specs.Takes.{OnceMade, formats_of};
 ghost use Rattle.cbor_decode.specs.Steps as step;
-ghost use Rattle.cbor_decode_as.specs.Calls as call;
+ghost use Rattle.cbor_decode_as.specs.DecoderCalls as call;
 
 use crate::head::pass_over;
 use crate::identifier::{Lookup, Why, unnamed};

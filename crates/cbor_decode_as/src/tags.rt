@@ -1,9 +1,10 @@
 //! Tags (RFC 7049, section 2.4).
 
-ghost use Rattle.std.specs.Prelude.{◌≡◌, ◌≤◌, IfOk, IfErr, IfSome, OnOk};
+ghost use Rattle.std.specs.Prelude.{◌≡◌, ◌≢◌, ◌≤◌, IfOk, IfErr, IfSome, OnOk};
 ghost use Rattle.cbor_io.specs.Error.{code_of};
+ghost use Rattle.cbor_io.specs.declared.error.ErrorCode.TheVariants.{OutOfMemory};
 ghost use Rattle.cbor_decode.specs.Decoder.{SameSettings};
-ghost use Rattle.cbor_decode.specs.Gives.{ReportsNoForm, ReportsNoKey};
+ghost use Rattle.cbor_decode.specs.Gives.{ReportsNoForm, ReportsNoKey, ReportsNoMemory};
 ghost use Rattle.cbor_decode_as.specs.Tags.{begins_tag, tag_first_at, tag_head_at};
 ghost use Rattle.cbor_decode_as.specs.Tags.{ReadsTag, LevelsBehind, PassesAll, TagIs, passed_at};
 ghost use Rattle.cbor_decode_as.specs.Takes.{formats_of};
@@ -38,6 +39,7 @@ pub fn read_tag<R: Source>(decoder: &mut Decoder<R>) -> Result<Option<u64>>
         TagIs (formats_of decoder.old.formats) decoder.old.levels n
         (R.source decoder.old.source) (R.source decoder.new.source))) }
     ensures no_form { IfErr result (λ e. ReportsNoForm (code_of e)) }
+    ensures memory { IfErr result (λ e. code_of e ≢ OutOfMemory) }
     ensures levels { LevelsBehind result decoder.old.levels decoder.new.levels }
     ensures formats { decoder.new.formats ≡ decoder.old.formats }
 {
@@ -52,6 +54,7 @@ pub(crate) fn take_tag<R: Source>(decoder: &mut Decoder<R>) -> Done<Option<u64>>
     ensures read { step.Gives R.source R.refusals (λ o. o) (λ l. tag_head_at decoder.old.levels)
         decoder.old decoder.new result }
     ensures no_key { IfErr result (ReportsNoKey decoder.new.refusal) }
+    ensures memory { IfErr result (ReportsNoMemory decoder.new.refusal) }
     ensures levels { LevelsBehind result decoder.old.levels decoder.new.levels }
     ensures formats { decoder.new.formats ≡ decoder.old.formats }
 {
@@ -70,6 +73,7 @@ fn tag_first<R: Source>(decoder: &mut Decoder<R>) -> Done<Option<u8>>
     ensures read { step.Gives R.source R.refusals (λ o. o) (λ l. tag_first_at)
         decoder.old decoder.new result }
     ensures no_key { IfErr result (ReportsNoKey decoder.new.refusal) }
+    ensures memory { IfErr result (ReportsNoMemory decoder.new.refusal) }
     ensures settings { SameSettings decoder.old decoder.new }
 {
     match decoder.source.peek() {
@@ -95,6 +99,7 @@ pub fn pass_tags<R: Source>(decoder: &mut Decoder<R>) -> Done<()>
     ensures passed { step.Gives R.source R.refusals (λ u. decoder.new.levels)
         (λ l. passed_at decoder.old.levels) decoder.old decoder.new result }
     ensures no_key { IfErr result (ReportsNoKey decoder.new.refusal) }
+    ensures memory { IfErr result (ReportsNoMemory decoder.new.refusal) }
     ensures levels { OnOk result (decoder.new.levels ≤ decoder.old.levels) }
     ensures formats { decoder.new.formats ≡ decoder.old.formats }
 {

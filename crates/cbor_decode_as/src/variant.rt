@@ -1,10 +1,11 @@
 //! Enums, up to the content of a variant.
 
-ghost use Rattle.std.specs.Prelude.{◌≡◌, ◌+◌, ◌<◌, length, true};
+ghost use Rattle.std.specs.Prelude.{◌≡◌, ◌≢◌, ◌+◌, ◌<◌, length, true};
 ghost use Rattle.std.specs.Prelude.{OnOk, OnErr, IfOk, IfErr};
 ghost use Rattle.cbor_io.specs.Error.{code_of, offset_of, HasNoOffset};
+ghost use Rattle.cbor_io.specs.declared.error.ErrorCode.TheVariants.{OutOfMemory};
 ghost use Rattle.cbor_decode.specs.Decoder.{SameSettings};
-ghost use Rattle.cbor_decode.specs.Gives.{Stopped, ReportsNoForm, ReportsNoKey};
+ghost use Rattle.cbor_decode.specs.Gives.{Stopped, ReportsNoForm, ReportsNoKey, ReportsNoMemory};
 ghost use Rattle.cbor_decode_as.specs.Cases.{HasCase, IsEnumCode, enum_cases, form_cases};
 ghost use Rattle.cbor_decode_as.specs.Cases.{untagged_cases};
 ghost use Rattle.cbor_decode_as.specs.Enums.{IsName};
@@ -18,7 +19,7 @@ ghost use Rattle.cbor_decode_as.specs.Variants.{unassigned_at};
 ghost use Rattle.cbor_decode_as.specs.declared.variant.Form.TheVariants.{Array};
 ghost use Rattle.cbor_decode_as.specs.declared.variant.Shape.TheVariants as shape;
 ghost use Rattle.cbor_decode.specs.Steps as step;
-ghost use Rattle.cbor_decode_as.specs.Calls as call;
+ghost use Rattle.cbor_decode_as.specs.DecoderCalls as call;
 
 use crate::collection::{array_head, key_begins};
 use crate::content::expect_item;
@@ -72,6 +73,7 @@ fn enum_shape<R: Source>(decoder: &mut Decoder<R>) -> Result<Shape>
     ensures cases { IfErr result (λ e. HasCase (R.source decoder.old.source) e
         (form_cases (formats_of decoder.old.formats))) }
     ensures code { IfErr result (λ e. IsEnumCode (code_of e)) }
+    ensures memory { IfErr result (λ e. code_of e ≢ OutOfMemory) }
     ensures settings { SameSettings decoder.old decoder.new }
 {
     let first = match decoder.source.peek() {
@@ -122,6 +124,7 @@ fn pair_head<R: Source>(decoder: &mut Decoder<R>) -> Done<()>
     ensures read { step.Gives R.source R.refusals (λ u. u)
         (λ l. pair_head_at (formats_of decoder.old.formats) decoder.old.levels)
         decoder.old decoder.new result }
+    ensures memory { IfErr result (ReportsNoMemory decoder.new.refusal) }
     ensures inside { OnOk result (decoder.old.levels ≡ decoder.new.levels + 1) }
     ensures formats { decoder.new.formats ≡ decoder.old.formats }
 {
@@ -245,6 +248,7 @@ fn unassigned_byte<R: Source>(decoder: &mut Decoder<R>) -> Refused
     ensures read { Stopped R.refusals (λ l. unassigned_at) (R.source decoder.old.source)
         (R.source decoder.new.source) decoder.new.refusal result }
     ensures no_key { ReportsNoKey decoder.new.refusal result }
+    ensures memory { ReportsNoMemory decoder.new.refusal result }
     ensures settings { SameSettings decoder.old decoder.new }
 {
     match decoder.byte() {

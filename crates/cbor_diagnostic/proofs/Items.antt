@@ -7,10 +7,10 @@ use Rattle.cbor_model.specs.Plain as plain
 use Rattle.cbor_model.specs.Plain.{Val, Vals, Pairs, array, map, tag, count, pair_count}
 use Rattle.cbor_value.specs.declared.Value.{Value}
 use Rattle.cbor_value.specs.View.{view, views, pair_views}
-use Rattle.cbor_diagnostic.specs.Layout.{inner, lead, closing}
+use Rattle.cbor_diagnostic.specs.Layout.{inner_indent, lead, closing}
 use Rattle.cbor_diagnostic.specs.Notation.{IsNotation, AreItems, ArePairs, IsPair}
 use Rattle.cbor_diagnostic.specs.Prints.{Prints}
-use Rattle.cbor_diagnostic.proofs.Printing.{Answer, SoFar, one_call, both, more, finished}
+use Rattle.cbor_diagnostic.proofs.Printing.{Answer, SoFar, one_call, wrote_then, more, finished}
 
 cons_at : {A : Type 0} → (xs : List A) (i : ℕ) (x : A) → i < length xs → x ≡ get_or xs i x → drop i xs ≡ x ∷ drop (i + 1) xs
 cons_at xs i x lt is = rw add-one (drop-cons xs i x lt ∙ ap (λ y. y ∷ drop (suc i) xs) (sym is))
@@ -22,7 +22,7 @@ pub next_item : {W : Type 0} {took : W → List ℕ → W → Type 0} {IsWhole :
     → WritesInCalls took a (lead indent is_first) b → Prints took (IsNotation indent (view v)) b c
     → SoFar took IsWhole (AreItems indent false (views (drop (i + 1) vs))) w c
 next_item indent is_first vs i v lt is so_far led item =
-    more (AreItems indent false (views (drop (i + 1) vs))) (lead indent is_first ++ item.text) so_far (both led item.wrote)
+    more (AreItems indent false (views (drop (i + 1) vs))) (lead indent is_first ++ item.text) so_far (wrote_then led item.wrote)
     (λ rest h. subst (λ (xs : List Value). AreItems indent is_first (views xs) ((lead indent is_first ++ item.text) ++ rest)) (sym (cons_at vs i v lt is))
     (item.text, rest, item.is, h, append_assoc (lead indent is_first) item.text rest))
 
@@ -36,7 +36,7 @@ pub next_pair : {W : Type 0} {took : W → List ℕ → W → Type 0} {IsWhole :
     → WritesInCalls took a (lead indent is_first) b → Prints took (IsPair indent (view p.0) (view p.1)) b c
     → SoFar took IsWhole (ArePairs indent false (pair_views (drop (i + 1) ps))) w c
 next_pair indent is_first ps i p lt is so_far led pair =
-    more (ArePairs indent false (pair_views (drop (i + 1) ps))) (lead indent is_first ++ pair.text) so_far (both led pair.wrote)
+    more (ArePairs indent false (pair_views (drop (i + 1) ps))) (lead indent is_first ++ pair.text) so_far (wrote_then led pair.wrote)
     (λ rest h. subst (λ (xs : List (Value × Value)). ArePairs indent is_first (pair_views xs) ((lead indent is_first ++ pair.text) ++ rest)) (sym (cons_at ps i p lt is)) (
       pair.is.key,
       pair.is.value,
@@ -54,7 +54,7 @@ no_more_pairs indent is_first ps i past so_far =
 
 -- ---- round them
 
-pub array_printed : {W : Type 0} {took : W → List ℕ → W → Type 0} {w a b c : W} (indent : Option ℕ) (inside : Option ℕ) (vs : Vals) (is_empty : Bool) → inside ≡ inner indent → is_empty ≡ (count vs == 0)
+pub array_printed : {W : Type 0} {took : W → List ℕ → W → Type 0} {w a b c : W} (indent : Option ℕ) (inside : Option ℕ) (vs : Vals) (is_empty : Bool) → inside ≡ inner_indent indent → is_empty ≡ (count vs == 0)
     → took w (codes "[") a → Prints took (AreItems inside true vs) a b → WritesInCalls took b (closing indent is_empty ++ codes "]") c
     → Prints took (IsNotation indent (array vs)) w c
 array_printed {took = took} {w = w} {a = a} indent inside vs is_empty within empty opened items closed = record {
@@ -64,10 +64,10 @@ array_printed {took = took} {w = w} {a = a} indent inside vs is_empty within emp
     subst (λ (i : Option ℕ). AreItems i true vs items.text) within items.is,
     ap (λ (b : Bool). codes "[" ++ (items.text ++ (closing indent b ++ codes "]"))) empty,
   );
-  wrote = both (one_call took w (codes "[") a opened) (both items.wrote closed);
+  wrote = wrote_then (one_call took w (codes "[") a opened) (wrote_then items.wrote closed);
 }
 
-pub map_printed : {W : Type 0} {took : W → List ℕ → W → Type 0} {w a b c : W} (indent : Option ℕ) (inside : Option ℕ) (ps qs : Pairs) (is_empty : Bool) → qs ≡ ps → inside ≡ inner indent
+pub map_printed : {W : Type 0} {took : W → List ℕ → W → Type 0} {w a b c : W} (indent : Option ℕ) (inside : Option ℕ) (ps qs : Pairs) (is_empty : Bool) → qs ≡ ps → inside ≡ inner_indent indent
     → is_empty ≡ (pair_count ps == 0) → took w (codes "{") a → Prints took (ArePairs inside true qs) a b → WritesInCalls took b (closing indent is_empty ++ codes "}") c
     → Prints took (IsNotation indent (map ps)) w c
 map_printed {took = took} {w = w} {a = a} indent inside ps qs is_empty listed within empty opened pairs closed = record {
@@ -77,7 +77,7 @@ map_printed {took = took} {w = w} {a = a} indent inside ps qs is_empty listed wi
     subst (λ (i : Option ℕ). ArePairs i true ps pairs.text) within (subst (λ (rs : Pairs). ArePairs inside true rs pairs.text) listed pairs.is),
     ap (λ (b : Bool). codes "{" ++ (pairs.text ++ (closing indent b ++ codes "}"))) empty,
   );
-  wrote = both (one_call took w (codes "{") a opened) (both pairs.wrote closed);
+  wrote = wrote_then (one_call took w (codes "{") a opened) (wrote_then pairs.wrote closed);
 }
 
 pub tag_printed : {W : Type 0} {took : W → List ℕ → W → Type 0} {w a b c : W} (indent : Option ℕ) (n : ℕ) (v : Val) → WritesInCalls took w (decimal n ++ codes "(") a
@@ -85,7 +85,7 @@ pub tag_printed : {W : Type 0} {took : W → List ℕ → W → Type 0} {w a b c
 tag_printed {took = took} {b = b} {c = c} indent n v opened inside closed = record {
   text = (decimal n ++ codes "(") ++ (inside.text ++ codes ")");
   is = (inside.text, inside.is, append_assoc (decimal n) (codes "(") (inside.text ++ codes ")"));
-  wrote = both opened (both inside.wrote (one_call took b (codes ")") c closed));
+  wrote = wrote_then opened (wrote_then inside.wrote (one_call took b (codes ")") c closed));
 }
 
 pub pair_printed : {W : Type 0} {took : W → List ℕ → W → Type 0} {w a b c : W} (indent : Option ℕ) (k v : Val) → Prints took (IsNotation indent k) w a → took a (codes ": ") b
@@ -93,7 +93,7 @@ pub pair_printed : {W : Type 0} {took : W → List ℕ → W → Type 0} {w a b 
 pair_printed {took = took} {a = a} {b = b} indent k v key colon value = record {
   text = key.text ++ (codes ": " ++ value.text);
   is = record { key = key.text; value = value.text; of_key = key.is; of_value = value.is; is = refl };
-  wrote = both key.wrote (both (one_call took a (codes ": ") b colon) value.wrote);
+  wrote = wrote_then key.wrote (wrote_then (one_call took a (codes ": ") b colon) value.wrote);
 }
 
 -- ---- a value by what it is

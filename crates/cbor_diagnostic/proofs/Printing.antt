@@ -21,8 +21,8 @@ last_call took w bs v (Err e) h = tt
 
 -- ---- one after the other
 
-pub both : {W : Type 0} {took : W → List ℕ → W → Type 0} {w u v : W} {a b : List ℕ} → WritesInCalls took w a u → WritesInCalls took u b v → WritesInCalls took w (a ++ b) v
-both {took = took} p q = writes_in_calls_append took _ _ _ _ _ p q
+pub wrote_then : {W : Type 0} {took : W → List ℕ → W → Type 0} {w u v : W} {a b : List ℕ} → WritesInCalls took w a u → WritesInCalls took u b v → WritesInCalls took w (a ++ b) v
+wrote_then {took = took} p q = writes_in_calls_append took _ _ _ _ _ p q
 
 pub same_text : {W : Type 0} {took : W → List ℕ → W → Type 0} {w v : W} {a b : List ℕ} → a ≡ b → WritesInCalls took w a v → WritesInCalls took w b v
 same_text {took = took} {w = w} {v = v} e p = subst (λ (bs : List ℕ). WritesInCalls took w bs v) e p
@@ -51,7 +51,7 @@ pub more : {W : Type 0} {took : W → List ℕ → W → Type 0} {IsWhole IsRest
     → WritesInCalls took u bs v → ((rest : List ℕ) → IsLess rest → IsRest (bs ++ rest)) → SoFar took IsWhole IsLess w v
 more {IsWhole = IsWhole} IsLess bs so_far wrote goes = record {
   done = so_far.done ++ bs;
-  wrote = both so_far.wrote wrote;
+  wrote = wrote_then so_far.wrote wrote;
   whole = λ rest h. subst IsWhole (sym (append_assoc so_far.done bs rest)) (so_far.whole (bs ++ rest) (goes rest h));
 }
 

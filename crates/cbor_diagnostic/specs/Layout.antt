@@ -9,9 +9,9 @@ blanks zero = []
 blanks (suc n) = 32 ∷ 32 ∷ blanks n
 
 -- the indent of what lies inside
-abbrev pub inner : Option ℕ → Option ℕ
-inner None = None
-inner (Some n) = Some (n + 1)
+abbrev pub inner_indent : Option ℕ → Option ℕ
+inner_indent None = None
+inner_indent (Some n) = Some (n + 1)
 
 -- the line break, and the blanks
 abbrev pub line_start : Option ℕ → List ℕ

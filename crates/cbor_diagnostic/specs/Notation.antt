@@ -6,7 +6,7 @@ use Rattle.std.specs.Fmt.{decimal, signed_decimal}
 use Rattle.cbor_model.specs.Plain.{Val, null, bool, integer, float, bytes, text, array, map, tag}
 use Rattle.cbor_model.specs.Plain.{Vals, no_vals, val, Pairs, no_pairs, pair, count, pair_count}
 use Rattle.cbor_value.specs.Floats.{number}
-use Rattle.cbor_diagnostic.specs.Layout.{inner, lead, closing}
+use Rattle.cbor_diagnostic.specs.Layout.{inner_indent, lead, closing}
 use Rattle.cbor_diagnostic.specs.Texts.{byte_string, quoted}
 use Rattle.cbor_diagnostic.specs.Numerals.{IsFloatNotation}
 
@@ -22,9 +22,9 @@ abbrev mutual
   IsNotation indent (float w bits) out = IsFloatNotation (number w bits) out
   IsNotation indent (bytes b) out = out ≡ byte_string b
   IsNotation indent (text t) out = out ≡ quoted t
-  IsNotation indent (array vs) out = (items : List ℕ) × AreItems (inner indent) true vs items
+  IsNotation indent (array vs) out = (items : List ℕ) × AreItems (inner_indent indent) true vs items
       × (out ≡ codes "[" ++ (items ++ (closing indent (count vs == 0) ++ codes "]")))
-  IsNotation indent (map ps) out = (pairs : List ℕ) × ArePairs (inner indent) true ps pairs
+  IsNotation indent (map ps) out = (pairs : List ℕ) × ArePairs (inner_indent indent) true ps pairs
       × (out ≡ codes "{" ++ (pairs ++ (closing indent (pair_count ps == 0) ++ codes "}")))
   IsNotation indent (tag n v) out = (inside : List ℕ) × IsNotation indent v inside
       × (out ≡ decimal n ++ (codes "(" ++ (inside ++ codes ")")))

@@ -3,14 +3,14 @@
 
 ghost use Rattle.std.specs.Prelude.{◌≡◌, ◌++◌, IfOk, OnOk};
 ghost use Rattle.std.specs.Fmt.{WritesInCalls};
-ghost use Rattle.cbor_diagnostic.specs.Layout.{blanks, inner, line_start, comma, lead, closing};
+ghost use Rattle.cbor_diagnostic.specs.Layout.{blanks, inner_indent, line_start, comma, lead, closing};
 
 use std::fmt;
 use std::fmt::Write;
 
 /// The indent of what lies inside. It is refused past 2^64 - 1 steps, which no program reaches.
-pub(crate) fn inner(indent: Option<usize>) -> Result<Option<usize>, fmt::Error>
-    ensures { IfOk result (λ inside. inside ≡ inner indent) }
+pub(crate) fn inner_indent(indent: Option<usize>) -> Result<Option<usize>, fmt::Error>
+    ensures { IfOk result (λ inside. inside ≡ inner_indent indent) }
 {
     match indent {
         None => Ok(None),

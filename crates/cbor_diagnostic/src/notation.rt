@@ -7,7 +7,7 @@ ghost use Rattle.cbor_value.specs.View.{view, views, map_view, pair_views};
 ghost use Rattle.cbor_diagnostic.specs.Notation.{IsNotation, AreItems, ArePairs, IsPair};
 ghost use Rattle.cbor_diagnostic.specs.Prints.{Prints};
 
-use crate::layout::{close, inner, write_lead};
+use crate::layout::{close, inner_indent, write_lead};
 use crate::scalars::{write_bool, write_bytes, write_float, write_integer, write_text};
 use cbor_io::error;
 use cbor_value::{Map, Value};
@@ -66,7 +66,7 @@ fn write_array<W: Write>(items: &[Value], indent: Option<usize>, out: &mut W) ->
     ensures { OnOk result (Prints W.write_str_gives
         (IsNotation indent (plain.array (views items.now))) out.old out.new) }
 {
-    let inside = inner(indent)?;
+    let inside = inner_indent(indent)?;
     out.write_str("[")?;
     write_items(items, inside, out)?;
     close(items.is_empty(), indent, "]", out)
@@ -93,7 +93,7 @@ fn write_map<W: Write>(map: &Map, indent: Option<usize>, out: &mut W) -> fmt::Re
     ensures { OnOk result (Prints W.write_str_gives
         (IsNotation indent (plain.map (map_view map.now))) out.old out.new) }
 {
-    let inside = inner(indent)?;
+    let inside = inner_indent(indent)?;
     out.write_str("{")?;
     write_pairs(map.iter().as_slice(), inside, out)?;
     close(map.is_empty(), indent, "}", out)

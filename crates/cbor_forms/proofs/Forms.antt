@@ -24,7 +24,7 @@ use Rattle.cbor_forms.specs.Shortened.{shortened}
 use Rattle.cbor_forms.specs.Reduced.{signed, integer_of, integer_or, IsReducedInteger}
 use Rattle.cbor_forms.specs.declared.values.Form.{Form}
 use Rattle.cbor_forms.specs.declared.values.Form.TheVariants.{Core, Dcbor}
-use Rattle.cbor_forms.proofs.Keys.{by_order-cases}
+use Rattle.cbor_forms.proofs.DistinctKeys.{by_order-cases}
 
 -- ---- what a number is written as
 

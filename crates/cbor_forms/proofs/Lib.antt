@@ -1,10 +1,10 @@
-mod Whole
-mod Keys
+mod WholeOfBits
+mod DistinctKeys
 mod Shortening
 mod Forms
 mod SameNumbers
-mod Refused
+mod NotWritten
 mod Encoding
 mod Sorted
 mod ReadBack
-pub mod Spelled
+pub mod FormItems

@@ -21,9 +21,9 @@ use Rattle.cbor_model.specs.Laws.{SpellsValue}
 use Rattle.cbor_model.proofs.facts.Laws.{document_is_acceptable, canonical_reads_back}
 use Rattle.cbor_model.proofs.facts.Documents.{document_item, storable_document, document_in_range}
 use Rattle.cbor_model.proofs.facts.Maps.{KeysAscend-from_IsOrdered, put_all-ascending}
-use Rattle.cbor_forms.specs.Encoded.{SpellsAtDepth}
+use Rattle.cbor_forms.specs.FormEncoding.{SpellsAtDepth}
 use Rattle.cbor_forms.specs.LengthFirst.{length_first, all_length_first, joined}
-use Rattle.cbor_forms.proofs.Keys.{ascending_distinct}
+use Rattle.cbor_forms.proofs.DistinctKeys.{ascending_distinct}
 use Rattle.cbor_forms.proofs.Sorted.{FitPairs, Encodes, PairsEncode, sorted}
 use Rattle.cbor_forms.proofs.Sorted.{joined_strings}
 

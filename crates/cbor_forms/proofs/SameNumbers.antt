@@ -16,7 +16,7 @@ use Rattle.cbor_value.specs.View.{float_view}
 use Rattle.cbor_forms.specs.Reduced.{signed, integer_of, integer_or, reduced_number, with_one_zero}
 use Rattle.cbor_forms.specs.Shortened.{rewritten, reduced}
 use Rattle.cbor_forms.proofs.Forms.{some_same, found, shortest_apart, held}
-use Rattle.cbor_forms.proofs.Whole.{integer_from}
+use Rattle.cbor_forms.proofs.WholeOfBits.{integer_from}
 
 -- ---- what a float's integer says of it
 

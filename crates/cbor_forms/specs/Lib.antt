@@ -1,6 +1,6 @@
 pub mod Reduced
-pub mod Whole
+pub mod WholeOfBits
 pub mod Shortened
 pub mod Deterministic
 pub mod LengthFirst
-pub mod Encoded
+pub mod FormEncoding

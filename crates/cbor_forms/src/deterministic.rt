@@ -7,7 +7,7 @@ ghost use Rattle.cbor_convert.specs.Meaning.{value_of};
 ghost use Rattle.cbor_forms.specs.Shortened.{shortened, reduced, IsReducible, KeepsKeys};
 ghost use Rattle.cbor_forms.specs.Deterministic.{IsDcborSpelling, IsDeterministicSpelling};
 ghost use Rattle.cbor_forms.specs.Deterministic.{IsNotWrittenIn};
-ghost use Rattle.cbor_forms.specs.Encoded.{SpellsAtDepth};
+ghost use Rattle.cbor_forms.specs.FormEncoding.{SpellsAtDepth};
 ghost use Rattle.cbor_forms.specs.declared.values.Form.TheVariants.{Core, Dcbor};
 
 use crate::values::{reduced, shortened};

@@ -4,7 +4,7 @@ ghost use Rattle.std.specs.Prelude.{◌≡◌, ◌<◌, ◌^◌, IfSome, leb};
 ghost use Rattle.cbor_value.specs.Floats.{number_of};
 ghost use Rattle.cbor_value.specs.View.{view};
 ghost use Rattle.cbor_forms.specs.Reduced.{integer_of, reduced_number, signed};
-ghost use Rattle.cbor_forms.specs.Whole.{whole_of};
+ghost use Rattle.cbor_forms.specs.WholeOfBits.{whole_of};
 
 use cbor_value::{Float, Value};
 use std::num::f64_to_bits_with_nan;

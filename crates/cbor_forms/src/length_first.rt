@@ -17,7 +17,7 @@ ghost use Rattle.cbor_value.specs.View.{view, views, map_view, pair_views};
 ghost use Rattle.cbor_convert.specs.Meaning.{value_of};
 ghost use Rattle.cbor_forms.specs.Shortened.{shortened, KeepsKeys};
 ghost use Rattle.cbor_forms.specs.Deterministic.{IsNotWrittenIn};
-ghost use Rattle.cbor_forms.specs.Encoded.{SpellsAtDepth};
+ghost use Rattle.cbor_forms.specs.FormEncoding.{SpellsAtDepth};
 ghost use Rattle.cbor_forms.specs.declared.values.Form.TheVariants.{Core};
 ghost use Rattle.cbor_forms.specs.LengthFirst.{length_first, all_length_first, encoded};
 ghost use Rattle.cbor_forms.specs.LengthFirst.{content, joined};

@@ -17,7 +17,7 @@ use Rattle.cbor_model.proofs.documents.InDocuments as documents
 use Rattle.cbor_model.proofs.order.Puts as puts
 use Rattle.cbor_model.proofs.documents.Parts as parts
 use Rattle.cbor_model.proofs.reader.RawReader as rawreader
-use Rattle.cbor_model.proofs.documents.Room as room
+use Rattle.cbor_model.proofs.documents.SliceWrites as room
 use Rattle.cbor_model.proofs.documents.Unstored as unstored
 
 pub reader_finds : ReaderFinds

@@ -1,5 +1,5 @@
 -- Documents: their parts, their bytes, and what of them is stored.
-pub mod Room
+pub mod SliceWrites
 pub mod Documents
 pub mod Parts
 pub mod Unstored

@@ -1,8 +1,8 @@
 -- The reference reader: what it reads is spelled so, and what is spelled so it reads.
 pub mod ReaderSteps
 pub mod Majors
-pub mod Made
-pub mod Taken
+pub mod MadeItems
+pub mod BytesTaken
 pub mod Fuel
 pub mod FirstBytes
 pub mod FoundParts

@@ -20,7 +20,7 @@ use Rattle.cbor_model.specs.Document.{IsDocumentInRange}
 use Rattle.cbor_model.specs.Parts.{parts, part_bytes}
 use Rattle.cbor_model.specs.Formats.{Formats, all_formats, HasAllowedKeys}
 use Rattle.cbor_model.specs.RawReader.{raws_in, Begins}
-use Rattle.cbor_model.specs.Room.{held, whole}
+use Rattle.cbor_model.specs.SliceWrites.{held, whole}
 use Rattle.cbor_model.specs.Unstored.{StandsBefore}
 use Rattle.cbor_model.specs.Definite.{IsDefinite}
 use Rattle.std.specs.Cmp.{IsTotalOrder}

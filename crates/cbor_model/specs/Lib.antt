@@ -11,7 +11,7 @@ pub mod FiniteMap
 pub mod Refusal
 pub mod Reader
 pub mod Laws
-pub mod Room
+pub mod SliceWrites
 pub mod InRange
 pub mod InMemory
 pub mod Definite

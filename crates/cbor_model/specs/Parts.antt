@@ -23,7 +23,7 @@ pub data Part : Type 0 where
   tuple_head : ℕ → List ℕ → ℕ → Part
   struct_head : ℕ → List ℕ → Part
   field_part : ℕ → List ℕ → Doc → Part
-  both : Part → Part → Part
+  in_turn : Part → Part → Part
 
 -- What precedes the parts of a variant (of a struct variant, the map of its fields), by the settings `packed` and `legacy`
 abbrev pub newtype_start : ℕ → List ℕ → Bool → Bool → List ℕ
@@ -65,13 +65,13 @@ part_bytes (tuple_head i n len) packed legacy = tuple_start i n len packed legac
 part_bytes (struct_head i n) packed legacy = struct_start i n packed legacy
 part_bytes (field_part i n d) packed legacy =
     spell (identifier packed i n) ++ document_bytes d packed legacy
-part_bytes (both p q) packed legacy = part_bytes p packed legacy ++ part_bytes q packed legacy
+part_bytes (in_turn p q) packed legacy = part_bytes p packed legacy ++ part_bytes q packed legacy
 
 -- Each integer in the part is one that CBOR stores.
 abbrev pub IsStorablePart : Part → Type 0
 IsStorablePart (item d) = IsStorableDocument d
 IsStorablePart (field_part i n d) = IsStorableDocument d
-IsStorablePart (both p q) = IsStorablePart p × IsStorablePart q
+IsStorablePart (in_turn p q) = IsStorablePart p × IsStorablePart q
 IsStorablePart _ = Unit {0}
 
 -- The numbers that the part says fit, and its names are texts, as those of its document are.
@@ -84,21 +84,21 @@ IsPartInRange (newtype_head i n) = (i < 2 ^ 64) × IsTextString n
 IsPartInRange (tuple_head i n len) = (i < 2 ^ 64) × IsTextString n × (suc len < 2 ^ 64)
 IsPartInRange (struct_head i n) = (i < 2 ^ 64) × IsTextString n
 IsPartInRange (field_part i n d) = (i < 2 ^ 64) × IsTextString n × IsDocumentInRange d
-IsPartInRange (both p q) = IsPartInRange p × IsPartInRange q
+IsPartInRange (in_turn p q) = IsPartInRange p × IsPartInRange q
 IsPartInRange _ = Unit {0}
 
 -- the items of a sequence, the keys and values of a map, the fields of a struct, and then its end
 abbrev pub items : Docs → Part → Part
 items no_docs end = end
-items (doc d ds) end = both (item d) (items ds end)
+items (doc d ds) end = in_turn (item d) (items ds end)
 
 abbrev pub pairs : DocPairs → Part → Part
 pairs no_doc_pairs end = end
-pairs (doc_pair k v ps) end = both (item k) (both (item v) (pairs ps end))
+pairs (doc_pair k v ps) end = in_turn (item k) (in_turn (item v) (pairs ps end))
 
 abbrev pub fields : Fields → Part
 fields no_fields = nothing
-fields (field i n d fs) = both (field_part i n d) (fields fs)
+fields (field i n d fs) = in_turn (field_part i n d) (fields fs)
 
 -- what is said of a count, and of what is left of it at the end
 abbrev pub said : Length → ℕ → Option ℕ
@@ -107,12 +107,12 @@ said undeclared n = None
 
 -- The parts of a document: a head, what it holds, and its end. Others have none but themselves.
 abbrev pub parts : Doc → Part
-parts (sequence l ds) = both (array_head (said l (doc_count ds))) (items ds (ending (said l 0)))
-parts (mapping l ps) = both (map_head (said l (doc_pair_count ps))) (pairs ps (ending (said l 0)))
-parts (structure fs) = both (map_head (Some (field_count fs))) (fields fs)
-parts (newtype_variant i n d) = both (newtype_head i n) (item d)
-parts (tuple_variant i n ds) = both (tuple_head i n (doc_count ds)) (items ds (ending (Some 0)))
+parts (sequence l ds) = in_turn (array_head (said l (doc_count ds))) (items ds (ending (said l 0)))
+parts (mapping l ps) = in_turn (map_head (said l (doc_pair_count ps))) (pairs ps (ending (said l 0)))
+parts (structure fs) = in_turn (map_head (Some (field_count fs))) (fields fs)
+parts (newtype_variant i n d) = in_turn (newtype_head i n) (item d)
+parts (tuple_variant i n ds) = in_turn (tuple_head i n (doc_count ds)) (items ds (ending (Some 0)))
 parts (struct_variant i n fs) =
-    both (both (struct_head i n) (map_head (Some (field_count fs)))) (fields fs)
-parts (tagged n d) = both (tag_head n) (item d)
+    in_turn (in_turn (struct_head i n) (map_head (Some (field_count fs)))) (fields fs)
+parts (tagged n d) = in_turn (tag_head n) (item d)
 parts d = item d

@@ -8,7 +8,7 @@ use Rattle.cbor_model.specs.Document.{structure, newtype_variant, tuple_variant,
 use Rattle.cbor_model.specs.Document.{tagged, no_docs, doc, no_doc_pairs, doc_pair, no_fields, field}
 use Rattle.cbor_model.specs.Document.{identifier, document_bytes, IsStorableDocument, doc_count}
 use Rattle.cbor_model.specs.Document.{doc_pair_count, field_count}
-use Rattle.cbor_model.specs.Parts.{Part, item, field_part, both, part_bytes, IsStorablePart}
+use Rattle.cbor_model.specs.Parts.{Part, item, field_part, in_turn, part_bytes, IsStorablePart}
 use Rattle.cbor_model.specs.Parts.{array_start, map_start, newtype_start, tuple_start, struct_start}
 use Rattle.cbor_model.specs.Parts.{said}
 
@@ -65,7 +65,7 @@ abbrev pub StandsBeforeIn : Part → Bool → Bool → List ℕ → Type 0
 StandsBeforeIn (item d) packed legacy front = StandsBefore d packed legacy front
 StandsBeforeIn (field_part i n d) packed legacy front =
     GoesOn (spell (identifier packed i n)) front (StandsBefore d packed legacy)
-StandsBeforeIn (both p q) packed legacy front = StandsBeforeIn p packed legacy front
+StandsBeforeIn (in_turn p q) packed legacy front = StandsBeforeIn p packed legacy front
     ⊎ (IsStorablePart p
     × GoesOn (part_bytes p packed legacy) front (StandsBeforeIn q packed legacy))
 StandsBeforeIn _ packed legacy front = ⊥

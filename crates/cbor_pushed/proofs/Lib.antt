@@ -2,10 +2,10 @@ pub mod Lasts
 pub mod GoesOn
 pub mod Opened
 pub mod Chunked
-pub mod Ended
-pub mod Standing
-pub mod Found
+pub mod ItemsAtPlaces
+pub mod ScanSteps
+pub mod ScannedBytes
 pub mod ForGood
-pub mod Told
+pub mod FoundByDefinitions
 pub mod Pushed
 pub mod facts

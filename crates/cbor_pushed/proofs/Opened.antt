@@ -9,7 +9,7 @@ use Rattle.cbor_model.proofs.facts.HeadNumbers.{number_behind_found, number_behi
 use Rattle.cbor_decode.specs.Heads.{passed}
 use Rattle.cbor_decode.specs.declared.cursor.Remaining.TheVariants.{Counted, ToBreak}
 use Rattle.cbor_pushed.specs.Rests.{reading, rest_at}
-use Rattle.cbor_pushed.specs.Scanned.{IsNumber, Opens, last}
+use Rattle.cbor_pushed.specs.Scanned.{IsNumber, HasHead, last}
 use Rattle.cbor_pushed.specs.declared.rest.Rest.{Rest}
 use Rattle.cbor_pushed.specs.declared.rest.Rest.TheVariants.{Items, Pairs}
 use Rattle.cbor_pushed.proofs.GoesOn.{one, passed_map}
@@ -46,24 +46,24 @@ module _ (b : ℕ) (bs : List ℕ) (n left : ℕ) (fits : AreBytes bs) (is : IsN
   after more = let e : length bs - left + 1 ≡ suc (length bs - left) = omega arith in rw e refl
 
   opens : (rest : Rest) → ((total levels : ℕ) (more : List ℕ) → passed (item_at (reading total) (suc levels) ((b ∷ bs) ++ more)) ≡ rest_at total levels rest (last left bs ++ more))
-      → Opens (b ∷ bs) rest (length bs - left + 1)
+      → HasHead (b ∷ bs) rest (length bs - left + 1)
   opens rest whole = record {
     some = omega arith;
     within = omega arith;
     whole = λ total levels more. whole total levels more ∙ ap (rest_at total levels rest) (sym (after more));
   }
 
-  pub counted_array : b / 32 ≡ 4 → Opens (b ∷ bs) (Items (Counted n)) (length bs - left + 1)
+  pub counted_array : b / 32 ≡ 4 → HasHead (b ∷ bs) (Items (Counted n)) (length bs - left + 1)
   counted_array major = opens (Items (Counted n)) (λ total levels more. array_opens total levels b n (bs ++ more) (last left bs ++ more) is.0 (number_more (b % 32) n bs (last left bs) more fits is.1) major)
 
-  pub counted_map : b / 32 ≡ 5 → Opens (b ∷ bs) (Pairs (Counted n)) (length bs - left + 1)
+  pub counted_map : b / 32 ≡ 5 → HasHead (b ∷ bs) (Pairs (Counted n)) (length bs - left + 1)
   counted_map major = opens (Pairs (Counted n)) (λ total levels more. map_opens total levels b n (bs ++ more) (last left bs ++ more) is.0 (number_more (b % 32) n bs (last left bs) more fits is.1) major)
 
-  pub counted_tag : b / 32 ≡ 6 → Opens (b ∷ bs) (Items (Counted 1)) (length bs - left + 1)
+  pub counted_tag : b / 32 ≡ 6 → HasHead (b ∷ bs) (Items (Counted 1)) (length bs - left + 1)
   counted_tag major = opens (Items (Counted 1)) (λ total levels more. tag_opens total levels b n (bs ++ more) (last left bs ++ more) is.0 (number_more (b % 32) n bs (last left bs) more fits is.1) major)
 
 -- the first byte of an indefinite length
-pub endless_array : (bs : List ℕ) → Opens (0x9f ∷ bs) (Items ToBreak) 1
+pub endless_array : (bs : List ℕ) → HasHead (0x9f ∷ bs) (Items ToBreak) 1
 unfolding item_at item_by byte_at after_first content_at array_at rest_at
 endless_array bs = record {
   some = omega arith;
@@ -71,7 +71,7 @@ endless_array bs = record {
   whole = λ total levels more. passed_map (parts_at (items_of (reading total) (item_at (reading total) levels)) to_break (bs ++ more)) ((reading total).array indefinite);
 }
 
-pub endless_map : (bs : List ℕ) → Opens (0xbf ∷ bs) (Pairs ToBreak) 1
+pub endless_map : (bs : List ℕ) → HasHead (0xbf ∷ bs) (Pairs ToBreak) 1
 unfolding item_at item_by byte_at after_first content_at map_at rest_at
 endless_map bs = record {
   some = omega arith;

@@ -10,11 +10,11 @@ use Rattle.cbor_decode.specs.Heads.{passed}
 use Rattle.cbor_decode.proofs.facts.Steps.{passed_was}
 use Rattle.cbor_pushed.specs.ItemAtFront.{FindsItem, HasItem, HasNoItem}
 use Rattle.cbor_pushed.specs.Rests.{all_at, reading}
-use Rattle.cbor_pushed.specs.Scanned.{ChunksPassed, Follows, InChunks, Stands, chunks_to}
+use Rattle.cbor_pushed.specs.Scanned.{ChunksPassed, Follows, InChunks, HasScanned, chunks_to}
 use Rattle.cbor_pushed.specs.declared.rest.Rest.{Rest}
 use Rattle.cbor_pushed.specs.declared.scan.Scan.{Scan}
 use Rattle.cbor_pushed.proofs.ForGood.{is_front}
-use Rattle.cbor_pushed.proofs.Standing.{passed_again}
+use Rattle.cbor_pushed.proofs.ScanSteps.{passed_again}
 
 in_chunks_more : (major n : ℕ) (bs piece : List ℕ) → InChunks major n bs → InChunks major n (bs ++ piece)
 in_chunks_more major n bs piece i = record {
@@ -34,7 +34,7 @@ chunks_more n bs piece (inl none) = inl none
 chunks_more n bs piece (inr i) = inr (i.0, in_chunks_more i.0 n bs piece i.1)
 
 module _ (levels at chunks : ℕ) (innermost : Rest) (around : List Rest) where
-  stands_more : (front piece : List ℕ) → Stands levels at chunks innermost around front → Stands levels at chunks innermost around (front ++ piece)
+  stands_more : (front piece : List ℕ) → HasScanned levels at chunks innermost around front → HasScanned levels at chunks innermost around (front ++ piece)
   stands_more front piece s =
       let behind : drop at (front ++ piece) ≡ drop at front ++ piece = drop-append-le at front piece s.within in
       record {
@@ -50,15 +50,15 @@ module _ (levels at chunks : ℕ) (innermost : Rest) (around : List Rest) where
       }
 
   -- behind those that were taken, where memory was had for them
-  pub pushed_stands : (had : Bool) (start : ℕ) (old new piece : List ℕ) → new ≡ cond had (old ++ piece) old → start ≤ length old → Stands levels at chunks innermost around (drop start old)
-      → (start ≤ length new) × Stands levels at chunks innermost around (drop start new)
+  pub pushed_stands : (had : Bool) (start : ℕ) (old new piece : List ℕ) → new ≡ cond had (old ++ piece) old → start ≤ length old → HasScanned levels at chunks innermost around (drop start old)
+      → (start ≤ length new) × HasScanned levels at chunks innermost around (drop start new)
   pushed_stands true start old new piece is within s =
       let here : drop start new ≡ drop start old ++ piece = ap (λ (l : List ℕ). drop start l) is ∙ drop-append-le start old piece within in (
         omega (arith, within, ap length is, length-append old piece),
-        subst (Stands levels at chunks innermost around) (sym here) (stands_more (drop start old) piece s),
+        subst (HasScanned levels at chunks innermost around) (sym here) (stands_more (drop start old) piece s),
       )
   pushed_stands false start old new piece is within s =
-      (omega (arith, within, ap length is), subst (λ (l : List ℕ). Stands levels at chunks innermost around (drop start l)) (sym is) s)
+      (omega (arith, within, ap length is), subst (λ (l : List ℕ). HasScanned levels at chunks innermost around (drop start l)) (sym is) s)
 
 -- a scan stands where it stood
 pub follows_more : (levels : ℕ) (scan : Scan) (front piece : List ℕ) → Follows levels scan front → Follows levels scan (front ++ piece)

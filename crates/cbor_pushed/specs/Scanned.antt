@@ -39,7 +39,7 @@ HasNoNumber low bs = low < 28 → number_behind low bs ≡ Err ended
 
 -- The bytes begin with the head of an array, a map or a tag, of so many bytes, after which this is
 -- to come, whatever is added.
-pub record Opens (bs : List ℕ) (rest : Rest) (n : ℕ) : Type 0 where
+pub record HasHead (bs : List ℕ) (rest : Rest) (n : ℕ) : Type 0 where
   pub some : 0 < n
   pub within : n ≤ length bs
   pub whole : (total levels : ℕ) (more : List ℕ)
@@ -99,7 +99,7 @@ EndsAt levels front at (Err e) =
 
 -- What is read of the item at the front is what is to come behind this place, of the innermost and
 -- of those around it, whatever is added.
-pub record Stands (levels at chunks : ℕ) (innermost : Rest) (around : List Rest) (front : List ℕ)
+pub record HasScanned (levels at chunks : ℕ) (innermost : Rest) (around : List Rest) (front : List ℕ)
     : Type 0 where
   pub within : at ≤ length front
   pub nested : length around ≤ levels
@@ -110,7 +110,7 @@ pub record Stands (levels at chunks : ℕ) (innermost : Rest) (around : List Res
 
 -- there the scan stands
 abbrev pub Follows : ℕ → Scan → List ℕ → Type 0
-Follows levels scan front = Stands levels scan.at scan.chunks scan.innermost scan.around.items front
+Follows levels scan front = HasScanned levels scan.at scan.chunks scan.innermost scan.around.items front
 
 -- At the place where the scan stands an item begins, with this byte.
 pub record BeginsBy (first : ℕ) (scan : Scan) (front : List ℕ) : Type 0 where

@@ -1,7 +1,7 @@
 //! The heads of arrays, maps and tags.
 
 ghost use Rattle.std.specs.Prelude.{◌∷◌, IfSome};
-ghost use Rattle.cbor_pushed.specs.Scanned.{Opens};
+ghost use Rattle.cbor_pushed.specs.Scanned.{HasHead};
 
 use crate::numbers::number;
 use crate::rest::Rest;
@@ -10,7 +10,7 @@ use cbor_decode::Remaining;
 /// What is to come behind the head of an array, a map or a tag that the bytes begin with, and how
 /// many bytes the head has; None where they begin with none, or it isn't whole.
 pub(crate) fn opening(bytes: &[u8]) -> Option<(Rest, usize)>
-    ensures { IfSome result (λ r. Opens bytes.now r.0 r.1) }
+    ensures { IfSome result (λ r. HasHead bytes.now r.0 r.1) }
 {
     let (first, behind) = bytes.split_first()?;
     match *first {
@@ -23,7 +23,7 @@ pub(crate) fn opening(bytes: &[u8]) -> Option<(Rest, usize)>
 
 // The same of one whose head has a number, of which the first byte stands before these.
 fn counted(first: u8, behind: &[u8]) -> Option<(Rest, usize)>
-    ensures { IfSome result (λ r. Opens (first ∷ behind.now) r.0 r.1) }
+    ensures { IfSome result (λ r. HasHead (first ∷ behind.now) r.0 r.1) }
 {
     let (n, left) = number(first % 32, behind)?;
     let rest = match first / 32 {

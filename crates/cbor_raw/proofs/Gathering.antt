@@ -21,7 +21,7 @@ use Rattle.cbor_pushed.specs.declared.scan.Scan.{Scan}
 use Rattle.cbor_pushed.proofs.facts.Scans.{end_category, ends_last, follows_more}
 use Rattle.cbor_raw.specs.Gathered.{GathersNone, GathersUnread, IsBytesOf, IsExcused, IsGathered, ReadsNone, TakesByte, TakesMore}
 use Rattle.cbor_raw.proofs.Kept.{none_gathered}
-use Rattle.cbor_raw.proofs.Unread.{none_behind, none_here}
+use Rattle.cbor_raw.proofs.NotReadFurther.{none_behind, none_here}
 
 -- a byte came behind these
 module _ (t u : Input) (old new : List ℕ) (came : TakesByte t u old new true) where

@@ -17,7 +17,7 @@ use Rattle.cbor_decode_as.specs.RawItems.{NoneWithin, StandsWithin}
 use Rattle.cbor_decode_as.specs.Takes.{IsNotRead, IsRead, raws}
 use Rattle.cbor_pushed.specs.ItemAtFront.{HasItem}
 use Rattle.cbor_raw.specs.Gathered.{IsBytesOf, ReadsNone}
-use Rattle.cbor_raw.proofs.Unread.{none_within_behind}
+use Rattle.cbor_raw.proofs.NotReadFurther.{none_within_behind}
 
 module _ (levels : ℕ) (item : Raw) (good : IsAcceptableWithin levels item) where
   abbrev bytes : List ℕ

@@ -1,5 +1,5 @@
 mod Alone
-mod Unread
+mod NotReadFurther
 mod Kept
 pub mod Gathering
 pub mod facts

@@ -5,7 +5,7 @@ ghost use Rattle.cbor_model.specs.Encoding.{IsEncoding};
 ghost use Rattle.cbor_decode.specs.Decoder.{SameSettings, formats_of};
 ghost use Rattle.cbor_decode_as.specs.RawItems.{StandsWithin};
 ghost use Rattle.cbor_decode.specs.Steps as step;
-ghost use Rattle.cbor_decode_as.specs.Calls as call;
+ghost use Rattle.cbor_decode_as.specs.DecoderCalls as call;
 ghost use Rattle.cbor_raw.specs.Gathered.{IsBytesOf};
 
 use crate::gather::{further, gather};

@@ -10,7 +10,7 @@ use Rattle.std.specs.Io.KnownBytes.{Consumes, Keeps, IsAtEnd}
 use Rattle.std.proofs.KnownBytes.{Consumes-nil, Consumes-trans}
 use Rattle.cbor_io.specs.ReadError.{why, place, HasNoPlace, IsMemory}
 use Rattle.cbor_read.specs.Source.{Input, TookKept, TookSome, Stays, Buffered, TooFew, IsOfSource}
-use Rattle.cbor_read.specs.Source.{Refused, RefusedToBuffer, RefusedInto, RefusedByte}
+use Rattle.cbor_read.specs.Source.{RefusedCall, RefusedToBuffer, RefusedInto, RefusedByte}
 use Rattle.cbor_read.specs.Source.{reader_refusals}
 use Rattle.cbor_io.specs.declared.read_error.ReadError.{ReadError}
 use Rattle.cbor_io.specs.declared.read_error.ReadErrorCode.TheVariants.{ScratchTooSmall}
@@ -154,7 +154,7 @@ not_small e h f =
 
 -- the end was met, and more was wanted
 at_end : (s t : Input) (n : ℕ) (e : ReadError) → why e ≡ EofWhileParsingValue → TookSome s t
-    → TooFew s n (place e) → Refused reader_refusals s t n e
+    → TooFew s n (place e) → RefusedCall reader_refusals s t n e
 at_end s t n e q h few = record {
   code = ap reader_refusals q;
   kind = subst IsOfSource (sym q) tt;
@@ -190,7 +190,7 @@ into_at_end s t u p n e q at l h k w =
 
 -- a byte's refusal ends a call that wants more
 byte_refused : (s t u : Input) (n : ℕ) (e : ReadError) → TookSome s t
-    → RefusedByte reader_refusals t u e → Refused reader_refusals s u n e
+    → RefusedByte reader_refusals t u e → RefusedCall reader_refusals s u n e
 byte_refused s t u n e h w = record {
   code = w.refused.code;
   kind = w.refused.kind;

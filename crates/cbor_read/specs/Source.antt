@@ -145,7 +145,7 @@ IsOfSource _ = ⊥
 
 -- How a call that wanted n bytes of s was refused, and left t: by one of the codes allowed, with
 -- a prefix of the bytes gone.
-pub record Refused (allowed : ReadErrorCode → Bool) (s t : Input) (n : ℕ) (e : ReadError)
+pub record RefusedCall (allowed : ReadErrorCode → Bool) (s t : Input) (n : ℕ) (e : ReadError)
     : Type 0 where
   pub code : allowed (why e) ≡ true
   pub kind : IsOfSource (why e)
@@ -163,7 +163,7 @@ NoRoom s n =
 -- How a call that appends to the buffer was refused. Where there is no room, nothing has changed.
 pub record RefusedToBuffer (allowed : ReadErrorCode → Bool) (s t : Input) (n : ℕ) (e : ReadError)
     : Type 0 where
-  pub refused : Refused allowed s t n e
+  pub refused : RefusedCall allowed s t n e
   pub small : why e ≡ ScratchTooSmall → Stays s t × (place e ≡ s.offset) × NoRoom s n
 
 -- Some bytes were taken, and counted. What stood here stays, followed by a prefix of them; the
@@ -183,13 +183,13 @@ or_memory allowed code = allowed code
 -- how a call that leaves the buffer alone was refused
 pub record RefusedInto (allowed : ReadErrorCode → Bool) (s t : Input) (n : ℕ) (e : ReadError)
     : Type 0 where
-  pub refused : Refused allowed s t n e
+  pub refused : RefusedCall allowed s t n e
   pub kept : t.buffer ≡ s.buffer
   pub room : why e ≢ ScratchTooSmall
 
 -- How `next` or `peek` was refused: nothing was taken, and no memory asked for. An end isn't refused.
 pub record RefusedByte (allowed : ReadErrorCode → Bool) (s t : Input) (e : ReadError) : Type 0 where
-  pub refused : Refused allowed s t 0 e
+  pub refused : RefusedCall allowed s t 0 e
   pub stays : Stays s t
   pub room : why e ≢ ScratchTooSmall
   pub ended : why e ≢ EofWhileParsingValue
@@ -197,7 +197,7 @@ pub record RefusedByte (allowed : ReadErrorCode → Bool) (s t : Input) (e : Rea
 
 -- how a call that hands on n bytes, or skips them, was refused
 abbrev pub RefusedPart : (ReadErrorCode → Bool) → Input → Input → ℕ → ReadError → Type 0
-RefusedPart allowed s t n e = Refused allowed s t n e × (why e ≢ ScratchTooSmall)
+RefusedPart allowed s t n e = RefusedCall allowed s t n e × (why e ≢ ScratchTooSmall)
 
 -- what `next` does: a byte was taken, or the end was met
 abbrev pub NextDoes : (ReadErrorCode → Bool) → Input → Input → Result (Option ℕ) ReadError → Type 0

@@ -30,6 +30,11 @@ pub record Rearranged (s t : MutSliceRead) : Type 0 where
   pub same : IsPermutation (take t.taken s.slice.now) (take t.taken t.slice.now)
   pub behind : drop t.taken t.slice.now ≡ drop t.taken s.slice.now
 
+-- The slice stays as it was.
+pub record SameSlice (s t : MutSliceRead) : Type 0 where
+  pub before : t.before ≡ s.before
+  pub same : t.slice.now ≡ s.slice.now
+
 abbrev pub input_of_vec : VecRead → Input
 input_of_vec s = slice_input s.bytes.items s.taken s.buffer.items None
 

@@ -129,9 +129,12 @@ fn cut_part<'a>(bytes: &mut &'a mut [u8], start: usize, n: usize) -> &'a [u8]
 
 impl<'a> Source for MutSliceRead<'a> {
     ghost use Rattle.std.specs.Prelude.{true, false, OnOk, OnErr};
-    ghost use Rattle.cbor_read.specs.Source.{mut_refusals, first_of, MemoryWhere};
-    ghost use Rattle.cbor_read.specs.Source.{Buffered, FitsRoom, Lengthened, RefusedToBuffer};
-    ghost use Rattle.cbor_read.specs.Sources.{input_of_mut_slice, Rearranged};
+    ghost use Rattle.std.specs.Prelude.{◌∷◌, ◌≢◌, IfSome, IsSome, MatchOption, Some};
+    ghost use Rattle.cbor_read.specs.Source.{mut_refusals, or_memory, first_of, MemoryWhere};
+    ghost use Rattle.cbor_read.specs.Source.{Buffered, FitsRoom, KeepsBytes, Lengthened, NextDoes};
+    ghost use Rattle.cbor_read.specs.Source.{RefusedByte, RefusedInto, RefusedPart, RefusedToBuffer};
+    ghost use Rattle.cbor_read.specs.Source.{Skipped, SkippedText, Stays, TookBehind, TookKept};
+    ghost use Rattle.cbor_read.specs.Sources.{input_of_mut_slice, Rearranged, SameSlice};
 
     ghost source = { input_of_mut_slice };
 
@@ -143,7 +146,14 @@ impl<'a> Source for MutSliceRead<'a> {
 
     ghost lends = { record { whole = true; joined = true } };
 
-    fn next(&mut self) -> Result<Option<u8>> {
+    fn next(&mut self) -> Result<Option<u8>>
+        ensures does { NextDoes mut_refusals (input_of_mut_slice self.old) (input_of_mut_slice self.new)
+            result }
+        ensures counted { (input_of_mut_slice self.new).offset < 2 ^ 64 }
+        ensures peeked { IfSome (first_of (drop self.old.taken self.old.slice.now))
+            (λ b. IfOk result (λ o. o ≡ Some b)) }
+        ensures same { SameSlice self.old self.new }
+    {
         Ok(if self.taken < self.slice.len() {
             let byte = self.slice[self.taken];
             self.taken += 1;
@@ -153,7 +163,18 @@ impl<'a> Source for MutSliceRead<'a> {
         })
     }
 
-    fn peek(&mut self) -> Result<Option<u8>> {
+    fn peek(&mut self) -> Result<Option<u8>>
+        ensures stays { OnOk result (Stays (input_of_mut_slice self.old) (input_of_mut_slice self.new)) }
+        ensures peeked { IfOk result (λ o. first_of (drop self.new.taken self.new.slice.now) ≡ o) }
+        ensures same_byte { IfSome (first_of (drop self.old.taken self.old.slice.now))
+            (λ b. IfOk result (λ o. o ≡ Some b)) }
+        ensures front { IfOk result (λ o. MatchOption o
+            (IfSome (input_of_mut_slice self.old).to_come (λ bs. bs ≡ []))
+            (λ b. IfSome (input_of_mut_slice self.old).to_come (λ bs. take 1 bs ≡ b ∷ []))) }
+        ensures err { IfErr result (RefusedByte mut_refusals
+            (input_of_mut_slice self.old) (input_of_mut_slice self.new)) }
+        ensures same { SameSlice self.old self.new }
+    {
         Ok(if self.taken < self.slice.len() {
             Some(self.slice[self.taken])
         } else {
@@ -167,11 +188,21 @@ impl<'a> Source for MutSliceRead<'a> {
     }
 
     #[inline(always)]
-    fn advance(&mut self, n: usize) {
+    fn advance(&mut self, n: usize)
+        requires { n ≤ length (drop self.old.taken self.old.slice.now) }
+        ensures took { TookKept (input_of_mut_slice self.old) (input_of_mut_slice self.new)
+            (take n (drop self.old.taken self.old.slice.now)) }
+        ensures counted { (input_of_mut_slice self.new).offset < 2 ^ 64 }
+        ensures same { SameSlice self.old self.new }
+    {
         self.taken += n;
     }
 
-    fn clear_buffer(&mut self) {
+    fn clear_buffer(&mut self)
+        ensures bytes { KeepsBytes (input_of_mut_slice self.old) (input_of_mut_slice self.new) }
+        ensures empty { (input_of_mut_slice self.new).buffer ≡ [] }
+        ensures same { SameSlice self.old self.new }
+    {
         self.joined = 0;
     }
 
@@ -207,34 +238,67 @@ impl<'a> Source for MutSliceRead<'a> {
     }
 
     #[tactic(auto, using(crate::proofs::Lengthened::none_taken))]
-    fn read_to_vec(&mut self, n: usize, out: &mut Vec<u8>) -> Result<()> {
+    fn read_to_vec(&mut self, n: usize, out: &mut Vec<u8>) -> Result<()>
+        ensures ok { OnOk result
+            (TookBehind (input_of_mut_slice self.old) (input_of_mut_slice self.new) n out.old.items
+            out.new.items) }
+        ensures err { IfErr result (RefusedInto (or_memory mut_refusals)
+            (input_of_mut_slice self.old) (input_of_mut_slice self.new) n) }
+        ensures kept { OnErr result (Lengthened (input_of_mut_slice self.old)
+            (input_of_mut_slice self.new) out.old.items out.new.items) }
+        ensures same { SameSlice self.old self.new }
+    {
         let end = self.end_of(n)?;
         append(out, self.part(end))?;
         self.taken = end;
         Ok(())
     }
 
-    fn read_into(&mut self, buf: &mut [u8]) -> Result<()> {
+    fn read_into(&mut self, buf: &mut [u8]) -> Result<()>
+        ensures ok { OnOk result (TookKept (input_of_mut_slice self.old) (input_of_mut_slice self.new)
+            buf.new) }
+        ensures err { IfErr result (RefusedInto mut_refusals
+            (input_of_mut_slice self.old) (input_of_mut_slice self.new) (length buf.old)) }
+        ensures memory { IfErr result (λ e. why e ≢ refusal.OutOfMemory) }
+        ensures same { SameSlice self.old self.new }
+    {
         let end = self.end_of(buf.len())?;
         buf.copy_from_slice(self.part(end));
         self.taken = end;
         Ok(())
     }
 
-    fn skip(&mut self, n: usize) -> Result<()> {
+    fn skip(&mut self, n: usize) -> Result<()>
+        ensures ok { OnOk result (Skipped (input_of_mut_slice self.old) (input_of_mut_slice self.new) n) }
+        ensures err { IfErr result (RefusedPart mut_refusals
+            (input_of_mut_slice self.old) (input_of_mut_slice self.new) n) }
+        ensures memory { IfErr result (MemoryWhere false) }
+        ensures same { SameSlice self.old self.new }
+    {
         let end = self.end_of(n)?;
         self.taken = end;
         Ok(())
     }
 
-    fn skip_text(&mut self, n: usize) -> Result<usize> {
+    fn skip_text(&mut self, n: usize) -> Result<usize>
+        ensures ok { IfOk result (SkippedText (input_of_mut_slice self.old) (input_of_mut_slice self.new) n) }
+        ensures err { IfErr result (RefusedPart mut_refusals
+            (input_of_mut_slice self.old) (input_of_mut_slice self.new) n) }
+        ensures memory { IfErr result (MemoryWhere false) }
+        ensures same { SameSlice self.old self.new }
+    {
         let end = self.end_of(n)?;
         let valid = valid_in(self.part(end));
         self.taken = end;
         Ok(valid)
     }
 
-    fn discard(&mut self) {
+    fn discard(&mut self)
+        requires { IsSome (first_of (drop self.old.taken self.old.slice.now)) }
+        ensures took { IfSome (first_of (drop self.old.taken self.old.slice.now))
+            (λ b. TookKept (input_of_mut_slice self.old) (input_of_mut_slice self.new) (b ∷ [])) }
+        ensures same { SameSlice self.old self.new }
+    {
         self.taken += 1;
     }
 

@@ -1,5 +1,5 @@
-pub mod Written
-pub mod Calls
+pub mod WrittenReadBack
+pub mod WriteThenRead
 pub mod NoChunks
 pub mod Bytes
 pub mod Nesting

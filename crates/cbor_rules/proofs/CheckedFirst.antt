@@ -30,7 +30,7 @@ use Rattle.cbor_rules.specs.declared.answers.Refusal.{Refusal}
 use Rattle.cbor_rules.specs.declared.answers.Refusal.TheVariants.{Unread, Departs}
 use Rattle.cbor_rules.specs.declared.settings.Rules.{Rules}
 use Rattle.cbor_rules.proofs.Canonical.{one_item}
-use Rattle.cbor_rules.proofs.Kept.{none_where_kept}
+use Rattle.cbor_rules.proofs.KeptRules.{none_where_kept}
 use Rattle.cbor_rules.proofs.Reading.{where_any}
 
 -- ---- a refusal that is passed on

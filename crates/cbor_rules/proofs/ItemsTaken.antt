@@ -13,7 +13,7 @@ use Rattle.cbor_de.specs.ItemTaken.{BeginsAs}
 use Rattle.cbor_rules.specs.NextItem.{BeginsByRules, BeginsDeparting, EndsAt, GivesItem, Items, counted_from, departure_from, to_come}
 use Rattle.cbor_rules.specs.Rules.{first_departure}
 use Rattle.cbor_rules.specs.declared.answers.Departure.{Departure}
-use Rattle.cbor_rules.proofs.Kept.{none_where_kept}
+use Rattle.cbor_rules.proofs.KeptRules.{none_where_kept}
 
 -- ---- one item stands at the front
 

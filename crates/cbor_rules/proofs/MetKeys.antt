@@ -19,7 +19,7 @@ use Rattle.cbor_rules.specs.declared.walk.Walk.TheVariants.{Passed, Departed, St
 use Rattle.cbor_rules.proofs.Followed.{GoesTo, then_departs}
 use Rattle.cbor_rules.proofs.Walked.{Answers, found_in}
 use Rattle.cbor_rules.proofs.Walking.{all_begin, all_step, open_begin, open_step, behind_item, behind_key, pairs_begin}
-use Rattle.cbor_rules.proofs.Told.{item_answers}
+use Rattle.cbor_rules.proofs.WalkReports.{item_answers}
 
 departs_as : (w u : model.Walk) → w ≡ u → IsDeparted u → IsDeparted w
 departs_as w u same departs = subst IsDeparted (sym same) departs

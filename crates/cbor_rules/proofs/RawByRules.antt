@@ -34,7 +34,7 @@ use Rattle.cbor_rules.specs.NextItem.{departure_from}
 use Rattle.cbor_rules.specs.RawByRules.{ReportsDepartureOrFault, GathersByRules, IsSourceFaultBy, MayBegin, ShowsDeparture}
 use Rattle.cbor_rules.specs.Rules.{Terms, first_departure}
 use Rattle.cbor_rules.specs.declared.answers.Departure.{Departure}
-use Rattle.cbor_rules.proofs.Kept.{none_where_kept}
+use Rattle.cbor_rules.proofs.KeptRules.{none_where_kept}
 
 -- one acceptable item is at the front of bytes
 pub one_item : (levels : ℕ) (bs : List ℕ) → length bs < 2 ^ 64 → (one other : Raw) (rest left : List ℕ) → Begins levels bs one rest → Begins levels bs other left → one ≡ other

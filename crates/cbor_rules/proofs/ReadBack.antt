@@ -23,7 +23,7 @@ use Rattle.cbor_decode.specs.FirstRefusal.{ReportsFirst, refusal_code}
 use Rattle.cbor_decode_as.specs.Takes.{WhereTotal}
 use Rattle.cbor_convert.specs.Meaning.{value_of}
 use Rattle.cbor_forms.specs.Deterministic.{IsNotWrittenIn, IsRefusedBy}
-use Rattle.cbor_forms.specs.Encoded.{SpellsAtDepth}
+use Rattle.cbor_forms.specs.FormEncoding.{SpellsAtDepth}
 use Rattle.cbor_forms.specs.Shortened.{Allows, rewritten}
 use Rattle.cbor_forms.specs.declared.values.Form.{Form}
 use Rattle.cbor_value.specs.View.{view}
@@ -31,13 +31,13 @@ use Rattle.cbor_value.specs.declared.Value.{Value}
 use Rattle.cbor_rules.specs.Answers.{IfDeparts, IfUnread, IsMemory, ReportsItsDeparture, SpellsByRules, SpellsDeparting}
 use Rattle.cbor_rules.specs.Presets.{IsReadBack}
 use Rattle.cbor_rules.specs.Rules.{Keeps, only}
-use Rattle.cbor_rules.specs.Written.{IsNestedTooDeep, IsNotReadBack, IsReadable, IsWritable}
+use Rattle.cbor_rules.specs.NotReadBack.{IsNestedTooDeep, IsNotReadBack, IsReadable, IsWritable}
 use Rattle.cbor_rules.specs.declared.answers.Departure.{Departure}
 use Rattle.cbor_rules.specs.declared.answers.Refusal.{Refusal}
 use Rattle.cbor_rules.specs.declared.answers.Refusal.TheVariants.{Unread, Departs}
 use Rattle.cbor_rules.specs.declared.settings.Rules.{Rules}
 use Rattle.cbor_rules.proofs.Deep.{only_too_deep}
-use Rattle.cbor_rules.proofs.Kept.{none_where_kept}
+use Rattle.cbor_rules.proofs.KeptRules.{none_where_kept}
 use Rattle.cbor_rules.proofs.Reading.{match_unread, only_unread}
 
 -- what a form allows is refused for lack of memory alone

@@ -13,7 +13,7 @@ use Rattle.cbor_io.specs.declared.error.Error.{Error}
 use Rattle.cbor_rules.specs.declared.answers.Departure.{Departure}
 use Rattle.cbor_rules.specs.declared.answers.Refusal.{Refusal}
 use Rattle.cbor_rules.specs.declared.answers.Refusal.TheVariants.{Unread}
-use Rattle.cbor_rules.proofs.Kept.{none_where_kept}
+use Rattle.cbor_rules.proofs.KeptRules.{none_where_kept}
 
 -- where a type reads every item, a promise that always holds
 pub where_any : {P : Type 0} (total : Bool) → P → WhereTotal total P

@@ -8,7 +8,7 @@ use Rattle.cbor_rules.specs.Rules.{Terms, first_departure}
 use Rattle.cbor_rules.specs.Walk.{Walk, departure_from, departed, walk}
 use Rattle.cbor_rules.specs.declared.settings.Rule.{Rule}
 use Rattle.cbor_rules.proofs.Extended.{Extends, walk_extends}
-use Rattle.cbor_rules.proofs.Told.{found_departure, reported}
+use Rattle.cbor_rules.proofs.WalkReports.{found_departure, reported}
 use Rattle.cbor_rules.proofs.Walked.{Answers, found_in, walked}
 
 -- whatever follows the front, and with any fuel

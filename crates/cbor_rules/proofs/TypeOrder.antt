@@ -32,66 +32,66 @@ pub head_major : (m n : ℕ) (bs : List ℕ) → major (head m (least n) n ++ bs
 head_major m n bs = high_of m (info (least n) n) (info_least n)
 
 -- how many bytes follow the first
-abbrev room : HeadWidth → ℕ
-room no_bytes = 0
-room one_byte = 1
-room two_bytes = 2
-room four_bytes = 4
-room eight_bytes = 8
+abbrev argument_length : HeadWidth → ℕ
+argument_length no_bytes = 0
+argument_length one_byte = 1
+argument_length two_bytes = 2
+argument_length four_bytes = 4
+argument_length eight_bytes = 8
 
-room-is : (w : HeadWidth) (n : ℕ) → length (behind w n) ≡ room w
-room-is no_bytes n = refl
-room-is one_byte n = refl
-room-is two_bytes n = refl
-room-is four_bytes n = refl
-room-is eight_bytes n = refl
+argument_length-is : (w : HeadWidth) (n : ℕ) → length (behind w n) ≡ argument_length w
+argument_length-is no_bytes n = refl
+argument_length-is one_byte n = refl
+argument_length-is two_bytes n = refl
+argument_length-is four_bytes n = refl
+argument_length-is eight_bytes n = refl
 
-within : (w : HeadWidth) (n : ℕ) → n < limit w → room (least n) ≤ room w
+within : (w : HeadWidth) (n : ℕ) → n < limit w → argument_length (least n) ≤ argument_length w
 within w n lt =
-    cond_both (ltb n 24) _ _ (λ u. room u ≤ room w) (λ e. omega arith)
-    (λ a. cond_both (ltb n (2 ^ 8)) _ _ (λ u. room u ≤ room w) (λ e. one w lt a)
-    (λ b. cond_both (ltb n (2 ^ 16)) _ _ (λ u. room u ≤ room w) (λ e. two w lt b)
-    (λ c. cond_both (ltb n (2 ^ 32)) _ _ (λ u. room u ≤ room w) (λ e. four w lt c) (λ d. eight w lt d))))
+    cond_both (ltb n 24) _ _ (λ u. argument_length u ≤ argument_length w) (λ e. omega arith)
+    (λ a. cond_both (ltb n (2 ^ 8)) _ _ (λ u. argument_length u ≤ argument_length w) (λ e. one w lt a)
+    (λ b. cond_both (ltb n (2 ^ 16)) _ _ (λ u. argument_length u ≤ argument_length w) (λ e. two w lt b)
+    (λ c. cond_both (ltb n (2 ^ 32)) _ _ (λ u. argument_length u ≤ argument_length w) (λ e. four w lt c) (λ d. eight w lt d))))
   where
-    one : (w : HeadWidth) → n < limit w → ltb n 24 ≡ false → 1 ≤ room w
+    one : (w : HeadWidth) → n < limit w → ltb n 24 ≡ false → 1 ≤ argument_length w
     one no_bytes lt a = absurd (omega (arith, lt, ltb-false n 24 a))
     one one_byte lt a = omega arith
     one two_bytes lt a = omega arith
     one four_bytes lt a = omega arith
     one eight_bytes lt a = omega arith
 
-    two : (w : HeadWidth) → n < limit w → ltb n (2 ^ 8) ≡ false → 2 ≤ room w
+    two : (w : HeadWidth) → n < limit w → ltb n (2 ^ 8) ≡ false → 2 ≤ argument_length w
     two no_bytes lt a = absurd (omega (arith, lt, ltb-false n (2 ^ 8) a))
     two one_byte lt a = absurd (omega (arith, lt, ltb-false n (2 ^ 8) a))
     two two_bytes lt a = omega arith
     two four_bytes lt a = omega arith
     two eight_bytes lt a = omega arith
 
-    four : (w : HeadWidth) → n < limit w → ltb n (2 ^ 16) ≡ false → 4 ≤ room w
+    four : (w : HeadWidth) → n < limit w → ltb n (2 ^ 16) ≡ false → 4 ≤ argument_length w
     four no_bytes lt a = absurd (omega (arith, lt, ltb-false n (2 ^ 16) a))
     four one_byte lt a = absurd (omega (arith, lt, ltb-false n (2 ^ 16) a))
     four two_bytes lt a = absurd (omega (arith, lt, ltb-false n (2 ^ 16) a))
     four four_bytes lt a = omega arith
     four eight_bytes lt a = omega arith
 
-    eight : (w : HeadWidth) → n < limit w → ltb n (2 ^ 32) ≡ false → 8 ≤ room w
+    eight : (w : HeadWidth) → n < limit w → ltb n (2 ^ 32) ≡ false → 8 ≤ argument_length w
     eight no_bytes lt a = absurd (omega (arith, lt, ltb-false n (2 ^ 32) a))
     eight one_byte lt a = absurd (omega (arith, lt, ltb-false n (2 ^ 32) a))
     eight two_bytes lt a = absurd (omega (arith, lt, ltb-false n (2 ^ 32) a))
     eight four_bytes lt a = absurd (omega (arith, lt, ltb-false n (2 ^ 32) a))
     eight eight_bytes lt a = omega arith
 
-most : (n : ℕ) → room (least n) ≤ 8
+most : (n : ℕ) → argument_length (least n) ≤ 8
 most n =
-    cond_both (ltb n 24) _ _ (λ u. room u ≤ 8) (λ e. omega arith)
-    (λ a. cond_both (ltb n (2 ^ 8)) _ _ (λ u. room u ≤ 8) (λ e. omega arith)
-    (λ b. cond_both (ltb n (2 ^ 16)) _ _ (λ u. room u ≤ 8) (λ e. omega arith)
-    (λ c. cond_both (ltb n (2 ^ 32)) _ _ (λ u. room u ≤ 8) (λ e. omega arith) (λ d. omega arith))))
+    cond_both (ltb n 24) _ _ (λ u. argument_length u ≤ 8) (λ e. omega arith)
+    (λ a. cond_both (ltb n (2 ^ 8)) _ _ (λ u. argument_length u ≤ 8) (λ e. omega arith)
+    (λ b. cond_both (ltb n (2 ^ 16)) _ _ (λ u. argument_length u ≤ 8) (λ e. omega arith)
+    (λ c. cond_both (ltb n (2 ^ 32)) _ _ (λ u. argument_length u ≤ 8) (λ e. omega arith) (λ d. omega arith))))
 
 -- a greater number takes no fewer
-room_up : (n m : ℕ) → n ≤ m → room (least n) ≤ room (least m)
-room_up n m le =
-    let P : HeadWidth → Type 0 = λ (w : HeadWidth). room (least n) ≤ room w in
+argument_length_up : (n m : ℕ) → n ≤ m → argument_length (least n) ≤ argument_length (least m)
+argument_length_up n m le =
+    let P : HeadWidth → Type 0 = λ (w : HeadWidth). argument_length (least n) ≤ argument_length w in
     cond_both (ltb m 24) _ _ P (λ e. within no_bytes n (omega (arith, le, ltb-true m 24 e)))
     (λ a. cond_both (ltb m (2 ^ 8)) _ _ P (λ e. within one_byte n (omega (arith, le, ltb-true m (2 ^ 8) e)))
     (λ b. cond_both (ltb m (2 ^ 16)) _ _ P (λ e. within two_bytes n (omega (arith, le, ltb-true m (2 ^ 16) e)))
@@ -111,14 +111,14 @@ size _ = 0
 
 -- the length of what is encoded of that major type with that number
 abbrev len : ℕ → ℕ → ℕ
-len k s = cond (leb k 1) (suc (room (least s))) (cond (leb k 3) (suc (room (least s)) + s) (1 + 2 * (s - 24) + 2 * (s - 26)))
+len k s = cond (leb k 1) (suc (argument_length (least s))) (cond (leb k 3) (suc (argument_length (least s)) + s) (1 + 2 * (s - 24) + 2 * (s - 26)))
 
 len_up : (k s t : ℕ) → s ≤ t → len k s ≤ len k t
 len_up k s t le = by (leb k 1) (leb k 3)
   where
-    by : (b c : Bool) → cond b (suc (room (least s))) (cond c (suc (room (least s)) + s) (1 + 2 * (s - 24) + 2 * (s - 26))) ≤ cond b (suc (room (least t))) (cond c (suc (room (least t)) + t) (1 + 2 * (t - 24) + 2 * (t - 26)))
-    by true c = omega (arith, room_up s t le)
-    by false true = omega (arith, room_up s t le, le)
+    by : (b c : Bool) → cond b (suc (argument_length (least s))) (cond c (suc (argument_length (least s)) + s) (1 + 2 * (s - 24) + 2 * (s - 26))) ≤ cond b (suc (argument_length (least t))) (cond c (suc (argument_length (least t)) + t) (1 + 2 * (t - 24) + 2 * (t - 26)))
+    by true c = omega (arith, argument_length_up s t le)
+    by false true = omega (arith, argument_length_up s t le, le)
     by false false = omega (arith, le)
 
 len-is : (v : Val) → IsPlain v → length (canon v) ≡ len (major_type v) (size v)
@@ -126,15 +126,15 @@ unfolding canon canonical spell
 len-is null plain = refl
 len-is (bool true) plain = refl
 len-is (bool false) plain = refl
-len-is (integer (pos n)) plain = ap suc (room-is (least n) n)
-len-is (integer (negsuc n)) plain = ap suc (room-is (least n) n)
+len-is (integer (pos n)) plain = ap suc (argument_length-is (least n) n)
+len-is (integer (negsuc n)) plain = ap suc (argument_length-is (least n) n)
 len-is (float half bits) plain = refl
 len-is (float single bits) plain = refl
 len-is (float double bits) plain = refl
 len-is (bytes b) plain =
-    let n = length b in omega (arith, length-append (head 2 (least n) n) b, room-is (least n) n)
+    let n = length b in omega (arith, length-append (head 2 (least n) n) b, argument_length-is (least n) n)
 len-is (text b) plain =
-    let n = length b in omega (arith, length-append (head 3 (least n) n) b, room-is (least n) n)
+    let n = length b in omega (arith, length-append (head 3 (least n) n) b, argument_length-is (least n) n)
 len-is (array vs) plain = absurd plain
 len-is (map ps) plain = absurd plain
 len-is (tag n v) plain = absurd plain

@@ -8,7 +8,7 @@ pub mod Checked
 pub mod NextItem
 pub mod Texts
 pub mod Presets
-pub mod Written
+pub mod NotReadBack
 pub mod Unique
 pub mod Limits
 pub mod RawByRules

@@ -8,7 +8,7 @@ ghost use Rattle.cbor_forms.specs.LengthFirst.{length_first};
 ghost use Rattle.cbor_forms.specs.Shortened.{IsReducible, KeepsKeys, reduced, shortened};
 ghost use Rattle.cbor_forms.specs.declared.values.Form.TheVariants.{Core, Dcbor};
 ghost use Rattle.cbor_rules.specs.Presets.{IsReadBack};
-ghost use Rattle.cbor_rules.specs.Written.{IsNotReadBack, IsReadable};
+ghost use Rattle.cbor_rules.specs.NotReadBack.{IsNotReadBack, IsReadable};
 
 use crate::answers::Refusal;
 use crate::canonical_key::are_bytes;

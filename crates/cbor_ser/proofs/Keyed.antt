@@ -2,7 +2,7 @@
 use Rattle.std.proofs.Common.{◌≡◌, ◌∙◌, ◌++◌, ◌<◌, ℕ, ℤ, zero, suc, List, [], ◌∷◌, length, get_or, inl, inr, refl, sym, ap, arith, append_assoc, Option, Some, None}
 use Rattle.std.specs.Prelude.{Ok, IfSome}
 use Rattle.cbor_model.specs.Document.{Doc, Fields, no_fields, field, field_count, doc_pair_count, integer}
-use Rattle.cbor_model.specs.Parts.{Part, nothing, item, both, map_head, ending, parts, pairs, part_bytes}
+use Rattle.cbor_model.specs.Parts.{Part, nothing, item, in_turn, map_head, ending, parts, pairs, part_bytes}
 use Rattle.cbor_io.specs.declared.error.Error.{Error}
 use Rattle.cbor_ser.specs.Labels.{label_in, labelled_pairs, keyed_part, keyed_fields, keyed_document}
 use Rattle.cbor_ser.specs.Narrowed.{narrowed_part}
@@ -23,15 +23,15 @@ count_labelled labels no_fields = refl
 count_labelled labels (field i n d fs) = ap suc (count_labelled labels fs)
 
 -- the head, and the fields
-pub head_of : (labels : Option (List ℤ)) (fs : Fields) (n : ℕ) → n ≡ field_count fs → both (map_head (Some n)) (keyed_fields labels fs) ≡ parts (keyed_document labels fs)
-head_of None fs n counted = ap (λ n. both (map_head (Some n)) (keyed_fields None fs)) counted
-head_of (Some labels) fs n counted = ap (λ n. both (map_head (Some n)) (pairs (labelled_pairs labels fs) (ending (Some 0)))) (counted ∙ count_labelled labels fs)
+pub head_of : (labels : Option (List ℤ)) (fs : Fields) (n : ℕ) → n ≡ field_count fs → in_turn (map_head (Some n)) (keyed_fields labels fs) ≡ parts (keyed_document labels fs)
+head_of None fs n counted = ap (λ n. in_turn (map_head (Some n)) (keyed_fields None fs)) counted
+head_of (Some labels) fs n counted = ap (λ n. in_turn (map_head (Some n)) (pairs (labelled_pairs labels fs) (ending (Some 0)))) (counted ∙ count_labelled labels fs)
 
 same_itself : (s : Settings) (f : Part) → Same s f f
 same_itself s f = record { same = refl; storable = λ h. h; unstorable = λ h. h; in_range = λ h. h; before = λ front h. h }
 
 -- a part, another, and the rest
-regrouped : (s : Settings) (f g h : Part) → Same s (both (both f g) h) (both f (both g h))
+regrouped : (s : Settings) (f g h : Part) → Same s (in_turn (in_turn f g) h) (in_turn f (in_turn g h))
 unfolding part_bytes
 regrouped s f g h =
     let grouped = append_assoc (bytes_under s f) (bytes_under s g) in
@@ -50,7 +50,7 @@ regrouped s f g h =
     }
 
 -- a field, and those after it
-pub field_then : (s : Settings) (labels : Option (List ℤ)) (i : ℕ) (n : List ℕ) (d : Doc) (fs : Fields) → Same s (both (keyed_part labels i n d) (keyed_fields labels fs)) (keyed_fields labels (field i n d fs))
+pub field_then : (s : Settings) (labels : Option (List ℤ)) (i : ℕ) (n : List ℕ) (d : Doc) (fs : Fields) → Same s (in_turn (keyed_part labels i n d) (keyed_fields labels fs)) (keyed_fields labels (field i n d fs))
 field_then s None i n d fs = same_itself s (keyed_fields None (field i n d fs))
 field_then s (Some labels) i n d fs = regrouped s (item (integer (label_in labels i))) (item d) (keyed_fields (Some labels) fs)
 

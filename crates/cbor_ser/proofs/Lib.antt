@@ -7,7 +7,7 @@ pub mod Beginnings
 pub mod WriteSteps
 pub mod WrittenHeads
 pub mod Users
-pub mod Named
+pub mod FieldsByName
 pub mod Keyed
 pub mod Lists
 pub mod Values

@@ -2,7 +2,7 @@
 use Rattle.std.proofs.Common.{◌≡◌, ℕ, suc, ◌+◌, ◌<◌, ◌≤◌, List, [], ◌∷◌, length, drop, get_or, refl, sym, ap}
 use Rattle.std.proofs.lemmas.List.{drop_all}
 use Rattle.cbor_model.specs.Document.{Doc, docs, doc_pairs, doc_count, doc_pair_count}
-use Rattle.cbor_model.specs.Parts.{Part, item, both, items}
+use Rattle.cbor_model.specs.Parts.{Part, item, in_turn, items}
 use Rattle.cbor_ser.proofs.Writing.{cons_at}
 
 pub count_docs : {A : Type 0} (f : A → Doc) (xs : List A) → length xs ≡ doc_count (docs f xs)
@@ -15,7 +15,7 @@ count_doc_pairs f g (e ∷ es) = ap suc (count_doc_pairs f g es)
 
 -- the next item, and then those after it
 pub next_item : {A : Type 0} (f : A → Doc) (end : Part) (xs : List A) (i : ℕ) (x : A) → i < length xs → x ≡ get_or xs i x
-    → both (item (f x)) (items (docs f (drop (i + 1) xs)) end) ≡ items (docs f (drop i xs)) end
+    → in_turn (item (f x)) (items (docs f (drop (i + 1) xs)) end) ≡ items (docs f (drop i xs)) end
 next_item f end xs i x lt is = ap (λ ys. items (docs f ys) end) (sym (cons_at xs i x lt is))
 
 pub no_item : {A : Type 0} (f : A → Doc) (end : Part) (xs : List A) (i : ℕ) → length xs ≤ i → end ≡ items (docs f (drop i xs)) end

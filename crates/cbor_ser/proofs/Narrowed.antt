@@ -7,7 +7,7 @@ use Rattle.std.specs.Float.Ieee.{fits, to_bits}
 use Rattle.cbor_model.specs.Raw.{FloatWidth, half, single, double}
 use Rattle.cbor_model.specs.Plain.{Val}
 use Rattle.cbor_model.specs.Document.{Doc, Docs, DocPairs, Fields, null, bool, integer, float, bytes, text, unit_variant, sequence, mapping, structure, newtype_variant, tuple_variant, struct_variant, tagged, encoded, no_docs, doc, no_doc_pairs, doc_pair, no_fields, field, document_of, doc_count, doc_pair_count, field_count, IsStorableDocument, AreStorableDocuments, AreStorableDocumentPairs, AreStorableFields}
-use Rattle.cbor_model.specs.Parts.{Part, nothing, item, array_head, map_head, ending, tag_head, newtype_head, tuple_head, struct_head, field_part, both, items, pairs, fields, said, parts, IsStorablePart}
+use Rattle.cbor_model.specs.Parts.{Part, nothing, item, array_head, map_head, ending, tag_head, newtype_head, tuple_head, struct_head, field_part, in_turn, items, pairs, fields, said, parts, IsStorablePart}
 use Rattle.cbor_value.specs.Floats.{number, number_of}
 use Rattle.cbor_value.specs.Shortest.{half_of, half_or_single, shortest}
 use Rattle.cbor_value.specs.View.{float_view}
@@ -110,7 +110,7 @@ mutual
 pub part_storable : (b : Bool) (p : Part) → IsStorablePart p → IsStorablePart (narrowed_part b p)
 part_storable b (item d) h = storable_narrowed b d h
 part_storable b (field_part i n d) h = storable_narrowed b d h
-part_storable b (both p q) h = (part_storable b p h.0, part_storable b q h.1)
+part_storable b (in_turn p q) h = (part_storable b p h.0, part_storable b q h.1)
 part_storable b nothing h = h
 part_storable b (array_head n) h = h
 part_storable b (map_head n) h = h
@@ -136,15 +136,15 @@ fields_counted b (field i n d fs) = ap suc (fields_counted b fs)
 
 items_narrowed : (b : Bool) (ds : Docs) (n : Option ℕ) → narrowed_part b (items ds (ending n)) ≡ items (all_narrowed b ds) (ending n)
 items_narrowed b no_docs n = refl
-items_narrowed b (doc d ds) n = ap (both (item (narrowed b d))) (items_narrowed b ds n)
+items_narrowed b (doc d ds) n = ap (in_turn (item (narrowed b d))) (items_narrowed b ds n)
 
 pair_parts_narrowed : (b : Bool) (ps : DocPairs) (n : Option ℕ) → narrowed_part b (pairs ps (ending n)) ≡ pairs (pairs_narrowed b ps) (ending n)
 pair_parts_narrowed b no_doc_pairs n = refl
-pair_parts_narrowed b (doc_pair k v ps) n = ap (λ p. both (item (narrowed b k)) (both (item (narrowed b v)) p)) (pair_parts_narrowed b ps n)
+pair_parts_narrowed b (doc_pair k v ps) n = ap (λ p. in_turn (item (narrowed b k)) (in_turn (item (narrowed b v)) p)) (pair_parts_narrowed b ps n)
 
 field_parts_narrowed : (b : Bool) (fs : Fields) → narrowed_part b (fields fs) ≡ fields (fields_narrowed b fs)
 field_parts_narrowed b no_fields = refl
-field_parts_narrowed b (field i n d fs) = ap (both (field_part i n (narrowed b d))) (field_parts_narrowed b fs)
+field_parts_narrowed b (field i n d fs) = ap (in_turn (field_part i n (narrowed b d))) (field_parts_narrowed b fs)
 
 pub parts_narrowed : (b : Bool) (d : Doc) → narrowed_part b (parts d) ≡ parts (narrowed b d)
 parts_narrowed b (float w bits) = float_any (λ d. item d ≡ parts d) (λ v x. refl) b w bits

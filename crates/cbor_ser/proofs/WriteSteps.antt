@@ -11,7 +11,7 @@ use Rattle.cbor_model.specs.Plain.{Val}
 use Rattle.cbor_model.specs.Canonical.{canon, IsStorable, IsStorableInteger}
 use Rattle.cbor_model.specs.InMemory.{IsInMemory}
 use Rattle.cbor_model.specs.Document.{Doc, document_of, document_bytes, IsStorableDocument, IsDocumentInRange}
-use Rattle.cbor_model.specs.Parts.{Part, item, both, ending, parts, part_bytes, IsStorablePart, IsPartInRange}
+use Rattle.cbor_model.specs.Parts.{Part, item, in_turn, ending, parts, part_bytes, IsStorablePart, IsPartInRange}
 use Rattle.cbor_model.proofs.facts.Documents.{parts_bytes, storable_parts, parts_storable, parts_in_range, before_parts, part_stored, all_stored, document_is_canonical, storable_document, storable_value, document_in_range, value_in_range}
 use Rattle.cbor_value.specs.declared.Float.{Float}
 use Rattle.cbor_value.specs.declared.Float.TheVariants.{Half, Single, Double}
@@ -74,7 +74,7 @@ parts_same s d = record {
   before = λ front h. subst (λ (p : Part). StandsBeforeIn p s.packed s.legacy front) (sym (parts_narrowed s.shortest d)) (before_parts s.packed s.legacy (narrowed s.shortest d) front h);
 }
 
-pub added_then : {W : Type 0} {written : W → Option (List ℕ)} {references : W → List ℕ} {capacity : W → Option ℕ} {old mid new : Serializer W} {f g : Part} → Added written references capacity old f mid → Added written references capacity mid g new → Added written references capacity old (both f g) new
+pub added_then : {W : Type 0} {written : W → Option (List ℕ)} {references : W → List ℕ} {capacity : W → Option ℕ} {old mid new : Serializer W} {f g : Part} → Added written references capacity old f mid → Added written references capacity mid g new → Added written references capacity old (in_turn f g) new
 unfolding part_bytes
 added_then {written = written} {old = old} {mid = mid} {new = new} {f = f} {g = g} a b = record {
   appended = Appends-trans (written old.writer) (written mid.writer) (written new.writer) (bytes_under old.settings f) (bytes_under old.settings g) a.appended
@@ -150,7 +150,7 @@ module _ {W : Type 0} {written : W → Option (List ℕ)} {refuses : W → Error
     };
   }
 
-  stopped_within : {old mid new : Serializer W} {f g : Part} {e : Error} → Added written references capacity old f mid → Stopped written refuses references capacity mid g new e → StopsBefore old.settings (both f g) (written old.writer) (written new.writer)
+  stopped_within : {old mid new : Serializer W} {f g : Part} {e : Error} → Added written references capacity old f mid → Stopped written refuses references capacity mid g new e → StopsBefore old.settings (in_turn f g) (written old.writer) (written new.writer)
   unfolding part_bytes
   stopped_within {old = old} {mid = mid} {new = new} {f = f} {g = g} a b front h = elim h [
     | inl x ↦ absurd (part_stored (narrowed_part old.settings.shortest f) old.settings.packed old.settings.legacy front (part_storable old.settings.shortest f a.storable) x)
@@ -159,14 +159,14 @@ module _ {W : Type 0} {written : W → Option (List ℕ)} {refuses : W → Error
         (b.before y.1.0 (subst (λ (s : Settings). StandsBeforeIn (narrowed_part s.shortest g) s.packed s.legacy y.1.0) (sym a.settings) y.1.2)))
   ]
 
-  stopped_earlier : {old new : Serializer W} {f : Part} (g : Part) {e : Error} → Stopped written refuses references capacity old f new e → StopsBefore old.settings (both f g) (written old.writer) (written new.writer)
+  stopped_earlier : {old new : Serializer W} {f : Part} (g : Part) {e : Error} → Stopped written refuses references capacity old f new e → StopsBefore old.settings (in_turn f g) (written old.writer) (written new.writer)
   unfolding part_bytes
   stopped_earlier {old = old} {new = new} g b front h = elim h [
     | inl x ↦ b.before front x
     | inr y ↦ subst (λ bs. AppendsBeginning bs (written old.writer) (written new.writer)) (sym y.1.1) (began_more y.1.0 b.appended)
   ]
 
-  pub stopped_then : {old mid new : Serializer W} {f g : Part} {e : Error} → Added written references capacity old f mid → Stopped written refuses references capacity mid g new e → Stopped written refuses references capacity old (both f g) new e
+  pub stopped_then : {old mid new : Serializer W} {f g : Part} {e : Error} → Added written references capacity old f mid → Stopped written refuses references capacity mid g new e → Stopped written refuses references capacity old (in_turn f g) new e
   unfolding part_bytes
   stopped_then {old = old} {mid = mid} {new = new} {f = f} {g = g} a b = record {
     appended = began_then (written old.writer) (written mid.writer) (written new.writer) (bytes_under old.settings f) (bytes_under old.settings g) a.appended
@@ -179,7 +179,7 @@ module _ {W : Type 0} {written : W → Option (List ℕ)} {refuses : W → Error
     no_room = λ storable room. b.no_room storable.1 (room_then f g a room);
   }
 
-  pub stopped_before : {old new : Serializer W} {f : Part} (g : Part) {e : Error} → Stopped written refuses references capacity old f new e → Stopped written refuses references capacity old (both f g) new e
+  pub stopped_before : {old new : Serializer W} {f : Part} (g : Part) {e : Error} → Stopped written refuses references capacity old f new e → Stopped written refuses references capacity old (in_turn f g) new e
   unfolding part_bytes
   stopped_before {old = old} {f = f} g b = record {
     appended = began_more (bytes_under old.settings g) b.appended;
@@ -192,12 +192,12 @@ module _ {W : Type 0} {written : W → Option (List ℕ)} {refuses : W → Error
   }
 
   -- a part was appended, and then the rest
-  pub and_then : {T : Type 0} {old mid new : Serializer W} {f g : Part} {r : Result T Error} → Added written references capacity old f mid → Serialized written refuses references capacity mid g new r → Serialized written refuses references capacity old (both f g) new r
+  pub and_then : {T : Type 0} {old mid new : Serializer W} {f g : Part} {r : Result T Error} → Added written references capacity old f mid → Serialized written refuses references capacity mid g new r → Serialized written refuses references capacity old (in_turn f g) new r
   and_then {r = Ok x} a h = record { ok = added_then a h.ok; err = tt }
   and_then {r = Err e} a h = record { ok = tt; err = stopped_then a h.err }
 
   -- the exit of a `?`, before more parts
-  pub stops : {T : Type 0} {old new : Serializer W} {f g : Part} {e : Error} {r : Result T Error} → IsErrAnd r (λ x. x ≡ e) → Stopped written refuses references capacity old f new e → Serialized written refuses references capacity old (both f g) new r
+  pub stops : {T : Type 0} {old new : Serializer W} {f g : Part} {e : Error} {r : Result T Error} → IsErrAnd r (λ x. x ≡ e) → Stopped written refuses references capacity old f new e → Serialized written refuses references capacity old (in_turn f g) new r
   stops {r = Ok x} is h = absurd is
   stops {old = old} {new = new} {f = f} {g = g} {r = Err x} is h = record { ok = tt; err = stopped_before g (subst (λ z. Stopped written refuses references capacity old f new z) (sym is) h) }
 
@@ -283,7 +283,7 @@ module _ {W : Type 0} {written : W → Option (List ℕ)} {refuses : W → Error
   }
 
   -- the last part, where a declared length needs no end
-  pub last : {T : Type 0} {old new : Serializer W} {f : Part} {r : Result T Error} → Serialized written refuses references capacity old f new r → Serialized written refuses references capacity old (both f (ending (Some 0))) new r
+  pub last : {T : Type 0} {old new : Serializer W} {f : Part} {r : Result T Error} → Serialized written refuses references capacity old f new r → Serialized written refuses references capacity old (in_turn f (ending (Some 0))) new r
   unfolding part_bytes
   last {old = old} {f = f} h = same_part (record {
     same = sym (append-nil (bytes_under old.settings f));
@@ -342,13 +342,13 @@ module _ {W : Type 0} {written : W → Option (List ℕ)} {refuses : W → Error
 
   -- a part was appended, and then the rest
   pub step_then : {T E : Type 0} {old mid new : Serializer W} {f g : Part} {done : Result T E} {o : Option Error} → Added written references capacity old f mid
-      → Stepped written refuses references capacity mid g new done o → Stepped written refuses references capacity old (both f g) new done o
+      → Stepped written refuses references capacity mid g new done o → Stepped written refuses references capacity old (in_turn f g) new done o
   step_then {done = Ok x} a h = record { ok = added_then a h.ok; err = tt }
   step_then {T = T} {done = Err x} {o = o} a h = record { ok = tt; err = if_refused {T = T} (Err x) o (λ e b. stopped_then a b) h.err }
 
   -- the exit of a `?`, before more parts
   pub step_stops : {T E : Type 0} {old new : Serializer W} {f : Part} (g : Part) {done : Result T E} {o : Option Error} → IsErr done
-      → IsSomeAnd o (Stopped written refuses references capacity old f new) → Stepped written refuses references capacity old (both f g) new done o
+      → IsSomeAnd o (Stopped written refuses references capacity old f new) → Stepped written refuses references capacity old (in_turn f g) new done o
   step_stops g {done = Ok x} is h = cc
   step_stops g {done = Err x} {o = Some e} is h = record { ok = tt; err = stopped_before g h }
   step_stops g {done = Err x} {o = None} is h = absurd h

@@ -6,17 +6,17 @@ use Rattle.cbor_model.specs.Spelling.{spell}
 use Rattle.cbor_model.specs.Document.{Doc, unit_variant, raw_of, document_bytes, identifier, IsStorableDocument}
 use Rattle.cbor_ser.specs.Documents.{key_document}
 use Rattle.cbor_ser.specs.Narrowed.{narrowed}
-use Rattle.cbor_model.specs.Parts.{Part, item, both, array_head, map_head, newtype_head, tuple_head, struct_head, field_part, part_bytes, newtype_start, tuple_start, struct_start}
+use Rattle.cbor_model.specs.Parts.{Part, item, in_turn, array_head, map_head, newtype_head, tuple_head, struct_head, field_part, part_bytes, newtype_start, tuple_start, struct_start}
 use Rattle.cbor_ser.specs.declared.serializer.Settings.{Settings}
 use Rattle.cbor_ser.proofs.WriteSteps.{Same}
 
 -- the array in which the parts of a variant follow its identifier
 abbrev legacy_head : ℕ → ℕ → List ℕ → Part
-legacy_head len i n = both (array_head (Some len)) (item (unit_variant i n))
+legacy_head len i n = in_turn (array_head (Some len)) (item (unit_variant i n))
 
 -- the map of a variant's name, or of its number, and what it holds
 abbrev key_head : Bool → ℕ → List ℕ → Part
-key_head by_number i n = both (map_head (Some 1)) (item (key_document by_number i n))
+key_head by_number i n = in_turn (map_head (Some 1)) (item (key_document by_number i n))
 
 key_bytes : (packed legacy b : Bool) (i : ℕ) (n : List ℕ) → document_bytes (narrowed b (key_document packed i n)) packed legacy ≡ spell (identifier packed i n)
 unfolding document_bytes raw_of
@@ -69,7 +69,7 @@ tuple_legacy s i n len is = let more : len + 1 ≡ suc len = omega arith in reco
 }
 
 pub tuple_named : (s : Settings) (i : ℕ) (n : List ℕ) (len : ℕ) → s.legacy ≡ false → i < 2 ^ 64 → suc len < 2 ^ 64
-    → Same s (both (key_head false i n) (array_head (Some len))) (tuple_head i n len)
+    → Same s (in_turn (key_head false i n) (array_head (Some len))) (tuple_head i n len)
 unfolding part_bytes document_bytes raw_of
 tuple_named s i n len is fits fits' = record {
   same = ap (tuple_start i n len s.packed) (sym is);
@@ -99,7 +99,7 @@ struct_identified s i n is fits fits' = record {
   before = λ front h. absurd h;
 }
 
-pub field_same : (s : Settings) (i : ℕ) (n : List ℕ) (d : Doc) → Same s (both (item (unit_variant i n)) (item d)) (field_part i n d)
+pub field_same : (s : Settings) (i : ℕ) (n : List ℕ) (d : Doc) → Same s (in_turn (item (unit_variant i n)) (item d)) (field_part i n d)
 unfolding part_bytes document_bytes raw_of
 field_same s i n d = record {
   same = refl;

@@ -6,7 +6,7 @@ use Rattle.cbor_model.specs.Document.{Doc, DocPairs, no_doc_pairs, doc_pair, Fie
 use Rattle.cbor_model.specs.Document.{integer, bytes, mapping, declared, structure}
 use Rattle.cbor_model.specs.Document.{document_bytes, raw_of}
 use Rattle.cbor_model.specs.Parts as part
-use Rattle.cbor_model.specs.Parts.{Part, item, field_part, both, pairs, ending}
+use Rattle.cbor_model.specs.Parts.{Part, item, field_part, in_turn, pairs, ending}
 
 -- the first of these labels, and the others
 abbrev pub first_label : List ℤ → ℤ
@@ -37,7 +37,7 @@ labelled labels fs = mapping declared (labelled_pairs labels fs)
 -- a field
 abbrev pub keyed_part : Option (List ℤ) → ℕ → List ℕ → Doc → Part
 keyed_part None i n d = field_part i n d
-keyed_part (Some labels) i n d = both (item (integer (label_in labels i))) (item d)
+keyed_part (Some labels) i n d = in_turn (item (integer (label_in labels i))) (item d)
 
 -- the fields of a struct, behind its head
 abbrev pub keyed_fields : Option (List ℤ) → Fields → Part

@@ -7,7 +7,7 @@ use Rattle.cbor_model.specs.Document.{Doc, Docs, DocPairs, Fields, float, sequen
 use Rattle.cbor_model.specs.Document.{structure, newtype_variant, tuple_variant, struct_variant}
 use Rattle.cbor_model.specs.Document.{tagged, no_docs, doc, no_doc_pairs, doc_pair, no_fields, field}
 use Rattle.cbor_model.specs.Document.{declared, document_of}
-use Rattle.cbor_model.specs.Parts.{Part, item, field_part, both}
+use Rattle.cbor_model.specs.Parts.{Part, item, field_part, in_turn}
 use Rattle.cbor_value.specs.Floats.{number}
 use Rattle.cbor_value.specs.Shortest.{shortest}
 
@@ -47,7 +47,7 @@ abbrev mutual
 abbrev pub narrowed_part : Bool → Part → Part
 narrowed_part b (item d) = item (narrowed b d)
 narrowed_part b (field_part i n d) = field_part i n (narrowed b d)
-narrowed_part b (both p q) = both (narrowed_part b p) (narrowed_part b q)
+narrowed_part b (in_turn p q) = in_turn (narrowed_part b p) (narrowed_part b q)
 narrowed_part b p = p
 
 -- ---- examples

@@ -3,11 +3,11 @@ pub mod Ends
 pub mod Fronts
 pub mod Items
 pub mod Looks
-pub mod Named
+pub mod PickedTexts
 pub mod Numbered
 pub mod PlainNames
 pub mod Rewinds
 pub mod ShortTexts
-pub mod Steps
+pub mod CountedDown
 pub mod Taking
 pub mod Wholes

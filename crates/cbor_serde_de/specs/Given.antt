@@ -18,7 +18,7 @@ use Rattle.serde.specs.Event.{Event, boolean, signed, unsigned, single, double, 
 use Rattle.serde.specs.Event.{octets, nothing}
 use Rattle.serde.specs.Event.{seq_begins, seq_ends, map_begins, map_ends, key_begins}
 use Rattle.serde.specs.declared.name.Name.{Name}
-use Rattle.cbor_serde_de.specs.Keys.{PicksItem}
+use Rattle.cbor_serde_de.specs.PickedNames.{PicksItem}
 use Rattle.cbor_serde_de.specs.Numbers.{IsDouble, IsSingle}
 use Rattle.cbor_serde_de.specs.Places.{KeepsOpen, KeepsOuter, SameReading, input_of}
 use Rattle.cbor_serde_de.specs.declared.cbor.Cbor.{Cbor}

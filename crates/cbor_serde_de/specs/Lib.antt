@@ -2,9 +2,9 @@ pub mod AtHand
 pub mod Fronts
 pub mod Given
 pub mod Readers
-pub mod Refused
+pub mod StepErrors
 pub mod Streams
-pub mod Keys
+pub mod PickedNames
 pub mod Kinds
 pub mod Numbers
 pub mod Places

@@ -8,7 +8,7 @@ ghost use Rattle.serde.specs.Event.{map_begins, seq_begins, struct_begins};
 ghost use Rattle.cbor_serde_de.specs.Given.{Given, ReadsAs};
 
 use crate::cbor::Cbor;
-use crate::refusal::Step;
+use crate::step_error::Step;
 use cbor_decode_as::collection::{array_head, map_head};
 use cbor_decode_as::floats::read_f64;
 use cbor_decode_as::integer::{read_from_zero, read_integer, read_signed};

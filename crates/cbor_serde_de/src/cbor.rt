@@ -8,13 +8,13 @@ ghost use Rattle.cbor_model.specs.Refusal.{end_in_array, end_in_map};
 ghost use Rattle.cbor_serde_de.specs.Given.{Closes, CountsItem, CountsPair, ReadsAs, TakesKey};
 ghost use Rattle.cbor_serde_de.specs.Given.{TakesName};
 ghost use Rattle.cbor_serde_de.specs.AtHand.{BeginsText, CountsDown};
-ghost use Rattle.cbor_serde_de.specs.Refused.{Carries};
+ghost use Rattle.cbor_serde_de.specs.StepErrors.{Carries};
 ghost use Rattle.cbor_serde_de.specs.Places.{EndsSlice, Enters, IsAt, Leaves, Returns};
 ghost use Rattle.cbor_serde_de.specs.Places.{Starts, mark_of};
 
 use crate::kind::{kind_at, kind_within};
 use crate::places::{place_of_integer, place_of_part, place_of_plain, place_of_text};
-use crate::refusal::{Refusal, Step};
+use crate::step_error::{Step, StepError};
 use cbor_decode::{Decoder, Refused, Remaining};
 use cbor_decode_as::borrowed::{Unread, read_bytes, read_text, unread_error};
 use cbor_decode_as::collection::{more_items, more_pairs};
@@ -131,8 +131,8 @@ impl<'i> Cbor<'i> {
 
     #[cold]
     #[inline(never)]
-    pub(crate) fn message(&self, message: &str) -> Refusal {
-        Refusal::of(
+    pub(crate) fn message(&self, message: &str) -> StepError {
+        StepError::of(
             self.decoder.alloc,
             Error::message(self.decoder.alloc, message),
         )
@@ -140,36 +140,38 @@ impl<'i> Cbor<'i> {
 
     #[cold]
     #[inline(never)]
-    pub(crate) fn about(&self, text: std::result::Result<String, AllocError>) -> Refusal {
+    pub(crate) fn about(&self, text: std::result::Result<String, AllocError>) -> StepError {
         match text {
-            Ok(text) => { Refusal::of(self.decoder.alloc, Error::at(ErrorCode::Message(text), 0)) }
-            Err(_) => Refusal::OutOfMemory,
+            Ok(text) => {
+                StepError::of(self.decoder.alloc, Error::at(ErrorCode::Message(text), 0))
+            }
+            Err(_) => StepError::OutOfMemory,
         }
     }
 
     /// The refusal with this error.
     #[cold]
     #[inline(never)]
-    pub(crate) fn refused(&self, error: Error) -> Refusal
+    pub(crate) fn refused(&self, error: Error) -> StepError
         ensures { Carries error result }
     {
-        Refusal::of(self.decoder.alloc, error)
+        StepError::of(self.decoder.alloc, error)
     }
 
     // The refusal of a step of the decoder.
     #[cold]
     #[inline(never)]
-    pub(crate) fn stopped(&mut self, why: Refused) -> Refusal {
+    pub(crate) fn stopped(&mut self, why: Refused) -> StepError {
         let error = self.decoder.error(why);
-        Refusal::of(self.decoder.alloc, error)
+        StepError::of(self.decoder.alloc, error)
     }
 
     // The refusal of a string that isn't lent.
     #[cold]
     #[inline(never)]
-    pub(crate) fn unread(&mut self, why: Unread, message: &str) -> Refusal {
+    pub(crate) fn unread(&mut self, why: Unread, message: &str) -> StepError {
         let error = unread_error(&mut self.decoder, why, message);
-        Refusal::of(self.decoder.alloc, error)
+        StepError::of(self.decoder.alloc, error)
     }
 
     /// The place where it stands.
@@ -211,7 +213,7 @@ impl<'i> Cbor<'i> {
     // Why no head of an item stands at the front within tags.
     #[cold]
     #[inline(never)]
-    fn no_kind(&mut self) -> Refusal {
+    fn no_kind(&mut self) -> StepError {
         let levels = self.decoder.levels;
         let head = tagged_head(&mut self.decoder);
         self.decoder.levels = levels;

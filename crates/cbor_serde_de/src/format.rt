@@ -4,7 +4,7 @@ ghost use Rattle.std.specs.Prelude.{◌≡◌, IfOk, IfSome, slice_range};
 ghost use Rattle.cbor_decode_as.specs.Strings.{IsOneCharacter, text_bytes};
 
 use crate::cbor::{Cbor, Mark};
-use crate::refusal::{Refusal, Step};
+use crate::step_error::{Step, StepError};
 use cbor_decode_as::borrowed::{EitherStr, read_byte_string, read_text};
 use cbor_decode_as::byte_string::read_byte_string as read_own_bytes;
 use cbor_decode_as::collection::{array_at_hand, end_array, map_at_hand};
@@ -76,7 +76,7 @@ impl<'i> Format for Cbor<'i> {
     ghost use Rattle.std.specs.Prelude.{OnOk};
     ghost use Rattle.cbor_serde_de.specs.Given.{Given, IsAny, Looked, Picked, ReadsAs};
 
-    type Error = Refusal;
+    type Error = StepError;
 
     type Mark = Mark;
 
@@ -145,7 +145,7 @@ impl<'i> Format for Cbor<'i> {
         match read_text(&mut self.decoder) {
             Ok(text) => match character(text) {
                 Some(c) => Ok(c),
-                None => Err(Refusal::of(alloc, Error::message(alloc, NO_CHARACTER))),
+                None => Err(StepError::of(alloc, Error::message(alloc, NO_CHARACTER))),
             },
             Err(why) => Err(self.unread(why, NO_CHARACTER)),
         }
@@ -301,45 +301,45 @@ impl<'i> Format for Cbor<'i> {
     fn release(&mut self, _mark: Mark) {}
 
     // A message is of what doesn't fit, and items that are left of a tuple too.
-    fn is_fatal(&self, refusal: &Refusal) -> bool {
+    fn is_fatal(&self, refusal: &StepError) -> bool {
         match refusal {
-            Refusal::OutOfMemory => true,
-            Refusal::Error(error) => !matches!(
+            StepError::OutOfMemory => true,
+            StepError::Error(error) => !matches!(
                 error.code(),
                 ErrorCode::Message(_) | ErrorCode::TrailingData
             ),
         }
     }
 
-    fn missing(&self, name: &str) -> Refusal {
+    fn missing(&self, name: &str) -> StepError {
         self.about(format!(in self.decoder.alloc; "missing field `{name}`"))
     }
 
-    fn duplicate(&self, name: &str) -> Refusal {
+    fn duplicate(&self, name: &str) -> StepError {
         self.about(format!(in self.decoder.alloc; "duplicate field `{name}`"))
     }
 
-    fn unknown_key(&self) -> Refusal {
+    fn unknown_key(&self) -> StepError {
         self.message("unknown field")
     }
 
-    fn unknown_variant(&self) -> Refusal {
+    fn unknown_variant(&self) -> StepError {
         self.message("unknown variant")
     }
 
-    fn wrong_len(&self) -> Refusal {
+    fn wrong_len(&self) -> StepError {
         self.message("invalid length")
     }
 
-    fn invalid(&self) -> Refusal {
+    fn invalid(&self) -> StepError {
         self.message("invalid value")
     }
 
-    fn no_memory(&self) -> Refusal {
-        Refusal::OutOfMemory
+    fn no_memory(&self) -> StepError {
+        StepError::OutOfMemory
     }
 
-    fn custom(&self, message: &str) -> Refusal {
+    fn custom(&self, message: &str) -> StepError {
         self.message(message)
     }
 }

@@ -13,11 +13,11 @@ mod kind;
 mod laws;
 mod outline;
 mod places;
-mod refusal;
+mod step_error;
 mod stream;
 
 pub use cbor::{Cbor, Mark};
 pub use from::{from_bytes, from_reader, from_reader_with};
 pub use laws::whole_item;
-pub use refusal::Refusal;
+pub use step_error::StepError;
 pub use stream::Stream;

@@ -5,7 +5,7 @@ ghost use Rattle.std.specs.Prelude.{IsUtf8, OnSome};
 ghost use Rattle.serde.specs.Names.{Finds, NoneBelow, StandsFor};
 ghost use Rattle.cbor_read.specs.Source.{part_bytes};
 ghost use Rattle.cbor_decode_as.specs.Strings.{text_bytes};
-ghost use Rattle.cbor_serde_de.specs.Keys.{IsNumbered, PicksBytes, PicksInteger, PicksText};
+ghost use Rattle.cbor_serde_de.specs.PickedNames.{IsNumbered, PicksBytes, PicksInteger, PicksText};
 
 use cbor_decode_as::borrowed::EitherStr;
 use cbor_read::EitherLifetime;

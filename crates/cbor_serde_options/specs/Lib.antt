@@ -1,2 +1,2 @@
-pub mod Keys
+pub mod IntegerKeys
 pub mod Defaults

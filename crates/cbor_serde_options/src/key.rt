@@ -1,7 +1,7 @@
 //! Names that stand for integer keys.
 
 ghost use Rattle.std.specs.Prelude.{◌≡◌, ◌<◌, ◌^◌, ℕ, List};
-ghost use Rattle.cbor_serde_options.specs.Keys.{has_plain_front, key_number, magnitude, number_from};
+ghost use Rattle.cbor_serde_options.specs.IntegerKeys.{has_plain_front, key_number, magnitude, number_from};
 
 // The number of these digits after those of another, of at most 65 bits.
 #[cycle(number_from)]

@@ -1,8 +1,8 @@
-pub mod Contents
+pub mod StringsInMemory
 pub mod Due
 pub mod Levels
 pub mod Opening
 pub mod Refusing
 pub mod Running
-mod Walks
-pub mod Whole
+mod Fieldless
+pub mod DocumentItem

@@ -12,7 +12,7 @@ use Rattle.serde.specs.Event.{Event, Log, boolean, signed, unsigned, single, dou
 use Rattle.serde.specs.Spelling.{spelled}
 use Rattle.serde.specs.declared.name.NameKind.TheVariants.{Field, Variant}
 use Rattle.cbor_serde_ser.specs.Floats.{single_bytes, double_bytes}
-use Rattle.cbor_serde_options.specs.Keys.{key_number}
+use Rattle.cbor_serde_options.specs.IntegerKeys.{key_number}
 use Rattle.cbor_serde_ser.specs.declared.level.Level.{Level}
 use Rattle.cbor_serde_options.specs.declared.options.Options.{Options}
 

@@ -1,9 +1,9 @@
 pub mod Document
 pub mod Floats
-pub mod Encoded
+pub mod FloatBytes
 pub mod State
 pub mod Logged
 pub mod Noted
 pub mod Follows
-pub mod Refused
+pub mod EventErrors
 pub mod Reasons

@@ -2,16 +2,16 @@
 use Rattle.std.specs.Prelude.{◌≡◌, ⊤, ℕ}
 use Rattle.cbor_serde_ser.specs.declared.reason.Reason.{Reason}
 use Rattle.cbor_serde_ser.specs.declared.reason.Reason.TheVariants as reason
-use Rattle.cbor_serde_ser.specs.declared.refusal.Refusal.{Refusal}
-use Rattle.cbor_serde_ser.specs.declared.refusal.Refusal.TheVariants.{OutOfMemory, TooDeep, Message}
+use Rattle.cbor_serde_ser.specs.declared.event_error.EventError.{EventError}
+use Rattle.cbor_serde_ser.specs.declared.event_error.EventError.TheVariants.{OutOfMemory, TooDeep, Message}
 
 -- a message, or there was no memory for it
-abbrev pub IsMessage : Refusal → Type 0
+abbrev pub IsMessage : EventError → Type 0
 IsMessage (TooDeep n) = ⊥
 IsMessage _ = ⊤
 
 -- After so many bytes: too deep with their number, and else a message where there is memory for it.
-abbrev pub IsRefusalFor : Reason → ℕ → Refusal → Type 0
-IsRefusalFor why offset OutOfMemory = why ≡ reason.TooDeep → ⊥
-IsRefusalFor why offset (TooDeep n) = (why ≡ reason.TooDeep) × (n ≡ offset)
-IsRefusalFor why offset (Message text) = (why ≡ reason.OutOfMemory → ⊥) × (why ≡ reason.TooDeep → ⊥)
+abbrev pub IsEventErrorFor : Reason → ℕ → EventError → Type 0
+IsEventErrorFor why offset OutOfMemory = why ≡ reason.TooDeep → ⊥
+IsEventErrorFor why offset (TooDeep n) = (why ≡ reason.TooDeep) × (n ≡ offset)
+IsEventErrorFor why offset (Message text) = (why ≡ reason.OutOfMemory → ⊥) × (why ≡ reason.TooDeep → ⊥)

@@ -5,7 +5,7 @@ ghost use Rattle.cbor_model.specs.Head.{short};
 ghost use Rattle.cbor_io.specs.Head.{major_number};
 ghost use Rattle.cbor_serde_ser.specs.Document.{string, name_bytes, is_bytes, is_text};
 ghost use Rattle.cbor_serde_ser.specs.Document.{stored, Stored};
-ghost use Rattle.cbor_serde_ser.specs.Encoded.{encoded_bytes};
+ghost use Rattle.cbor_serde_ser.specs.FloatBytes.{encoded_bytes};
 ghost use Rattle.cbor_serde_ser.specs.State.{MayNot};
 ghost use Rattle.cbor_serde_ser.specs.declared.reason.Reason.TheVariants.{OutOfMemory};
 
@@ -16,11 +16,11 @@ use cbor_serde_options::number_of;
 use std::alloc::AllocError;
 
 /// What a step that only allocates returns.
-pub(crate) type Done = std::result::Result<(), AllocError>;
+pub(crate) type Appended = std::result::Result<(), AllocError>;
 
 /// Appends a piece.
 #[inline(always)]
-pub(crate) fn put(out: &mut Vec<u8>, piece: &[u8]) -> Done
+pub(crate) fn put(out: &mut Vec<u8>, piece: &[u8]) -> Appended
     ensures { OnOk result (out.new.items ≡ out.old.items ++ piece.now) }
 {
     out.extend_from_slice(piece)
@@ -28,7 +28,7 @@ pub(crate) fn put(out: &mut Vec<u8>, piece: &[u8]) -> Done
 
 /// Appends the shortest head of the major type with this number.
 #[inline(always)]
-pub(crate) fn put_head(out: &mut Vec<u8>, major: Major, n: u64) -> Done
+pub(crate) fn put_head(out: &mut Vec<u8>, major: Major, n: u64) -> Appended
     ensures { OnOk result (out.new.items ≡ out.old.items ++ short (major_number major) n) }
 {
     let first = major.number() * 32;
@@ -50,7 +50,7 @@ pub(crate) fn put_head(out: &mut Vec<u8>, major: Major, n: u64) -> Done
 
 // What a slice holds are bytes, fewer than 2^64.
 #[inline(always)]
-#[tactic(auto, using(crate::proofs::Contents::bytes_pass))]
+#[tactic(auto, using(crate::proofs::StringsInMemory::bytes_pass))]
 fn holds_bytes(bytes: &[u8])
     ensures { is_bytes bytes.now ≡ true }
 {
@@ -59,7 +59,7 @@ fn holds_bytes(bytes: &[u8])
 
 // What a text holds is UTF-8 besides.
 #[inline(always)]
-#[tactic(auto, using(crate::proofs::Contents::text_passes))]
+#[tactic(auto, using(crate::proofs::StringsInMemory::text_passes))]
 fn holds_text(text: &str)
     ensures { is_text text.now ≡ true }
 {
@@ -68,7 +68,7 @@ fn holds_text(text: &str)
 
 /// Appends a string: its head, and what it holds.
 #[inline(always)]
-pub(crate) fn put_string(out: &mut Vec<u8>, major: Major, content: &[u8]) -> Done
+pub(crate) fn put_string(out: &mut Vec<u8>, major: Major, content: &[u8]) -> Appended
     ensures content { is_bytes content.now ≡ true }
     ensures appended { OnOk result
         (out.new.items ≡ out.old.items ++ string (major_number major) content.now) }
@@ -79,7 +79,7 @@ pub(crate) fn put_string(out: &mut Vec<u8>, major: Major, content: &[u8]) -> Don
 }
 
 /// Appends a text.
-pub(crate) fn put_text(out: &mut Vec<u8>, text: &str) -> Done
+pub(crate) fn put_text(out: &mut Vec<u8>, text: &str) -> Appended
     ensures content { is_text text.now ≡ true }
     ensures appended { OnOk result (out.new.items ≡ out.old.items ++ string 3 text.now) }
 {
@@ -88,7 +88,7 @@ pub(crate) fn put_text(out: &mut Vec<u8>, text: &str) -> Done
 
 // The same where the text is mostly a name of the program: its head is then known when it's compiled.
 #[inline(always)]
-fn put_text_inline(out: &mut Vec<u8>, text: &str) -> Done
+fn put_text_inline(out: &mut Vec<u8>, text: &str) -> Appended
     ensures content { is_text text.now ≡ true }
     ensures appended { OnOk result (out.new.items ≡ out.old.items ++ string 3 text.now) }
 {
@@ -113,7 +113,7 @@ pub(crate) fn put_integer(out: &mut Vec<u8>, v: i128) -> Step<()>
 }
 
 /// Appends a float.
-pub(crate) fn put_float(out: &mut Vec<u8>, v: Encoded) -> Done
+pub(crate) fn put_float(out: &mut Vec<u8>, v: Encoded) -> Appended
     ensures { OnOk result (out.new.items ≡ out.old.items ++ encoded_bytes v) }
 {
     match v {

@@ -278,21 +278,21 @@ impl Writer {
         self.settle()
     }
 
-    // The printed text stays in the room.
+    // The printed text stays in the buffer.
     pub(crate) fn collect_str<T: std::fmt::Display>(&mut self, value: &T) -> Step<()>
         ensures step { OnOk result
-            (Writes self.old (text_event (string_bytes self.new.room)) self.new) }
+            (Writes self.old (text_event (string_bytes self.new.text_buffer)) self.new) }
         ensures options { self.new.options ≡ self.old.options }
         ensures refused { IfErr result
-            (Refuses self.old (text_event (string_bytes self.new.room))) }
+            (Refuses self.old (text_event (string_bytes self.new.text_buffer))) }
     {
         self.settle()?;
         self.item()?;
-        self.room.clear();
-        if write!(self.room, "{value}").is_err() {
+        self.text_buffer.clear();
+        if write!(self.text_buffer, "{value}").is_err() {
             return Err(Reason::OutOfMemory);
         }
-        put_text(&mut self.out, self.room.as_str())?;
+        put_text(&mut self.out, self.text_buffer.as_str())?;
         Ok(())
     }
 }

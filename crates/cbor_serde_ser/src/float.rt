@@ -2,7 +2,7 @@
 
 ghost use Rattle.std.specs.Prelude.{◌≡◌};
 ghost use Rattle.cbor_serde_ser.specs.Floats.{single_bytes, double_bytes};
-ghost use Rattle.cbor_serde_ser.specs.Encoded.{encoded_bytes};
+ghost use Rattle.cbor_serde_ser.specs.FloatBytes.{encoded_bytes};
 
 use cbor_halves::half_of;
 use std::num::{

@@ -5,14 +5,14 @@
 #![tactic(auto)]
 
 mod bytes;
+mod event_error;
 mod events;
 mod float;
 mod level;
 mod log;
 mod logged;
 mod reason;
-mod refusal;
 mod writer;
 
+pub use event_error::EventError;
 pub use logged::Logged;
-pub use refusal::Refusal;

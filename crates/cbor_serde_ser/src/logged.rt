@@ -9,9 +9,9 @@ ghost use Rattle.cbor_serde_ser.specs.Noted.{event_of};
 ghost use Rattle.cbor_serde_ser.specs.Document.{State, step, AreBytesOf, IsItem};
 ghost use Rattle.cbor_serde_ser.specs.State.{state};
 
+use crate::event_error::EventError;
 use crate::log::{Log, Note};
 use crate::reason::{Reason, Step};
-use crate::refusal::Refusal;
 use crate::writer::Writer;
 use cbor_serde_options::Options;
 use serde::{Case, Serializer};
@@ -41,7 +41,7 @@ impl Logged {
 
     /// The bytes of the document of the events, by these options, which are the serializer's. After
     /// a step that was refused there are none.
-    pub fn finish(self, options: Options) -> Result<Vec<u8>, Refusal>
+    pub fn finish(self, options: Options) -> Result<Vec<u8>, EventError>
         ensures events { IfOk result (λ bytes. AreBytesOf options self.log.events bytes.items) }
         ensures item { IfOk result (λ bytes. IsItem bytes.items) }
     {
@@ -57,7 +57,7 @@ impl Logged {
         let written = writer.out.len() as u64;
         match writer.finish(options) {
             Ok(bytes) => Ok(bytes),
-            Err(reason) => Err(Refusal::of(alloc, reason, written)),
+            Err(reason) => Err(EventError::of(alloc, reason, written)),
         }
     }
 }
@@ -73,12 +73,12 @@ fn unless_refused(refused: bool) -> Step<()>
 }
 
 impl Serializer for Logged {
-    type Error = Refusal;
+    type Error = EventError;
 
     ghost written = { λ s. s.log.events };
 
     #[inline(always)]
-    fn bool(&mut self, v: bool) -> Result<(), Refusal> {
+    fn bool(&mut self, v: bool) -> Result<(), EventError> {
         if let Err(reason) = self.writer.bool(v) {
             self.refused = true;
             self.log = after(&self.log, Note::Lost);
@@ -89,7 +89,7 @@ impl Serializer for Logged {
     }
 
     #[inline(always)]
-    fn i64(&mut self, v: i64) -> Result<(), Refusal> {
+    fn i64(&mut self, v: i64) -> Result<(), EventError> {
         if let Err(reason) = self.writer.i64(v) {
             self.refused = true;
             self.log = after(&self.log, Note::Lost);
@@ -100,7 +100,7 @@ impl Serializer for Logged {
     }
 
     #[inline(always)]
-    fn u64(&mut self, v: u64) -> Result<(), Refusal> {
+    fn u64(&mut self, v: u64) -> Result<(), EventError> {
         if let Err(reason) = self.writer.u64(v) {
             self.refused = true;
             self.log = after(&self.log, Note::Lost);
@@ -111,7 +111,7 @@ impl Serializer for Logged {
     }
 
     #[inline(always)]
-    fn i128(&mut self, v: i128) -> Result<(), Refusal> {
+    fn i128(&mut self, v: i128) -> Result<(), EventError> {
         if let Err(reason) = self.writer.i128(v) {
             self.refused = true;
             self.log = after(&self.log, Note::Lost);
@@ -122,7 +122,7 @@ impl Serializer for Logged {
     }
 
     #[inline(always)]
-    fn u128(&mut self, v: u128) -> Result<(), Refusal> {
+    fn u128(&mut self, v: u128) -> Result<(), EventError> {
         if let Err(reason) = self.writer.u128(v) {
             self.refused = true;
             self.log = after(&self.log, Note::Lost);
@@ -133,7 +133,7 @@ impl Serializer for Logged {
     }
 
     #[inline(always)]
-    fn f32(&mut self, v: f32) -> Result<(), Refusal> {
+    fn f32(&mut self, v: f32) -> Result<(), EventError> {
         if let Err(reason) = self.writer.f32(v) {
             self.refused = true;
             self.log = after(&self.log, Note::Lost);
@@ -144,7 +144,7 @@ impl Serializer for Logged {
     }
 
     #[inline(always)]
-    fn f64(&mut self, v: f64) -> Result<(), Refusal> {
+    fn f64(&mut self, v: f64) -> Result<(), EventError> {
         if let Err(reason) = self.writer.f64(v) {
             self.refused = true;
             self.log = after(&self.log, Note::Lost);
@@ -155,7 +155,7 @@ impl Serializer for Logged {
     }
 
     #[inline(always)]
-    fn char(&mut self, v: char) -> Result<(), Refusal> {
+    fn char(&mut self, v: char) -> Result<(), EventError> {
         if let Err(reason) = self.writer.char(v) {
             self.refused = true;
             self.log = after(&self.log, Note::Lost);
@@ -166,7 +166,7 @@ impl Serializer for Logged {
     }
 
     #[inline(always)]
-    fn str(&mut self, v: &str) -> Result<(), Refusal> {
+    fn str(&mut self, v: &str) -> Result<(), EventError> {
         if let Err(reason) = self.writer.str(v) {
             self.refused = true;
             self.log = after(&self.log, Note::Lost);
@@ -177,7 +177,7 @@ impl Serializer for Logged {
     }
 
     #[inline(always)]
-    fn bytes(&mut self, v: &[u8]) -> Result<(), Refusal> {
+    fn bytes(&mut self, v: &[u8]) -> Result<(), EventError> {
         if let Err(reason) = self.writer.bytes(v) {
             self.refused = true;
             self.log = after(&self.log, Note::Lost);
@@ -188,7 +188,7 @@ impl Serializer for Logged {
     }
 
     #[inline(always)]
-    fn unit(&mut self) -> Result<(), Refusal> {
+    fn unit(&mut self) -> Result<(), EventError> {
         if let Err(reason) = self.writer.unit() {
             self.refused = true;
             self.log = after(&self.log, Note::Lost);
@@ -199,7 +199,7 @@ impl Serializer for Logged {
     }
 
     #[inline(always)]
-    fn str_cased(&mut self, name: &str, case: Case) -> Result<(), Refusal> {
+    fn str_cased(&mut self, name: &str, case: Case) -> Result<(), EventError> {
         if let Err(reason) = self.writer.str_cased(name, case) {
             self.refused = true;
             self.log = after(&self.log, Note::Lost);
@@ -210,7 +210,7 @@ impl Serializer for Logged {
     }
 
     #[inline(always)]
-    fn begin_seq(&mut self, len: Option<usize>) -> Result<(), Refusal> {
+    fn begin_seq(&mut self, len: Option<usize>) -> Result<(), EventError> {
         if let Err(reason) = self.writer.begin_seq(len) {
             self.refused = true;
             self.log = after(&self.log, Note::Lost);
@@ -221,7 +221,7 @@ impl Serializer for Logged {
     }
 
     #[inline(always)]
-    fn end_seq(&mut self) -> Result<(), Refusal> {
+    fn end_seq(&mut self) -> Result<(), EventError> {
         if let Err(reason) = self.writer.end_seq() {
             self.refused = true;
             self.log = after(&self.log, Note::Lost);
@@ -232,7 +232,7 @@ impl Serializer for Logged {
     }
 
     #[inline(always)]
-    fn begin_map(&mut self, len: Option<usize>) -> Result<(), Refusal> {
+    fn begin_map(&mut self, len: Option<usize>) -> Result<(), EventError> {
         if let Err(reason) = self.writer.begin_map(len) {
             self.refused = true;
             self.log = after(&self.log, Note::Lost);
@@ -243,7 +243,7 @@ impl Serializer for Logged {
     }
 
     #[inline(always)]
-    fn end_map(&mut self) -> Result<(), Refusal> {
+    fn end_map(&mut self) -> Result<(), EventError> {
         if let Err(reason) = self.writer.end_map() {
             self.refused = true;
             self.log = after(&self.log, Note::Lost);
@@ -254,7 +254,7 @@ impl Serializer for Logged {
     }
 
     #[inline(always)]
-    fn key_cased(&mut self, name: &str, case: Case) -> Result<(), Refusal> {
+    fn key_cased(&mut self, name: &str, case: Case) -> Result<(), EventError> {
         if let Err(reason) = self.writer.key_cased(name, case) {
             self.refused = true;
             self.log = after(&self.log, Note::Lost);
@@ -265,7 +265,7 @@ impl Serializer for Logged {
     }
 
     #[inline(always)]
-    fn variant_key(&mut self, name: &str, case: Case) -> Result<(), Refusal> {
+    fn variant_key(&mut self, name: &str, case: Case) -> Result<(), EventError> {
         if let Err(reason) = self.writer.variant_key(name, case) {
             self.refused = true;
             self.log = after(&self.log, Note::Lost);
@@ -276,7 +276,7 @@ impl Serializer for Logged {
     }
 
     #[inline(always)]
-    fn begin_key(&mut self) -> Result<(), Refusal> {
+    fn begin_key(&mut self) -> Result<(), EventError> {
         if let Err(reason) = self.writer.begin_key() {
             self.refused = true;
             self.log = after(&self.log, Note::Lost);
@@ -287,7 +287,7 @@ impl Serializer for Logged {
     }
 
     #[inline(always)]
-    fn end_key(&mut self) -> Result<(), Refusal> {
+    fn end_key(&mut self) -> Result<(), EventError> {
         if let Err(reason) = self.writer.end_key() {
             self.refused = true;
             self.log = after(&self.log, Note::Lost);
@@ -298,7 +298,7 @@ impl Serializer for Logged {
     }
 
     #[inline(always)]
-    fn flatten_next(&mut self) -> Result<(), Refusal> {
+    fn flatten_next(&mut self) -> Result<(), EventError> {
         if let Err(reason) = self.writer.flatten_next() {
             self.refused = true;
             self.log = after(&self.log, Note::Lost);
@@ -308,18 +308,18 @@ impl Serializer for Logged {
         Ok(())
     }
 
-    fn collect_str<T: std::fmt::Display>(&mut self, value: &T) -> Result<(), Refusal> {
+    fn collect_str<T: std::fmt::Display>(&mut self, value: &T) -> Result<(), EventError> {
         if let Err(reason) = self.writer.collect_str(value) {
             self.refused = true;
             self.log = after(&self.log, Note::Lost);
             return Err(self.writer.refusal(reason));
         }
-        self.log = after(&self.log, Note::Text(self.writer.room.as_str()));
+        self.log = after(&self.log, Note::Text(self.writer.text_buffer.as_str()));
         Ok(())
     }
 
-    fn custom(&self, message: &str) -> Refusal {
-        Refusal::message(self.writer.alloc, message)
+    fn custom(&self, message: &str) -> EventError {
+        EventError::message(self.writer.alloc, message)
     }
 }
 

@@ -7,14 +7,14 @@ ghost use Rattle.serde.specs.declared.name.NameKind.TheVariants.{Field};
 ghost use Rattle.cbor_serde_ser.specs.Document.{after_item, begins, start, item, opened, opens};
 ghost use Rattle.cbor_serde_ser.specs.Document.{is_plain, is_text, level_start, name_bytes};
 ghost use Rattle.cbor_serde_ser.specs.Document.{ends, whole};
-ghost use Rattle.cbor_serde_ser.specs.Reasons.{IsRefusalFor};
+ghost use Rattle.cbor_serde_ser.specs.Reasons.{IsEventErrorFor};
 ghost use Rattle.cbor_serde_ser.specs.State.{MayNot, state};
 ghost use Rattle.cbor_serde_ser.specs.declared.reason.Reason.TheVariants.{OutOfMemory, TooDeep};
 
 use crate::bytes::{put, put_head, put_name};
+use crate::event_error::EventError;
 use crate::level::Level;
 use crate::reason::{Reason, Step};
-use crate::refusal::Refusal;
 use cbor_io::head::Major;
 use cbor_serde_options::{Options, number_of};
 use serde::{Case, NameKind};
@@ -37,7 +37,7 @@ pub(crate) struct Writer {
     // The length that a map declares whose head waits for what comes first in it.
     pub(crate) begun: Option<Option<u64>>,
     // Room for a name in another case, and for printed text.
-    pub(crate) room: String,
+    pub(crate) text_buffer: String,
 }
 
 impl Writer {
@@ -54,17 +54,17 @@ impl Writer {
             outer: Vec::new(alloc),
             flattens: false,
             begun: None,
-            room: String::new(alloc),
+            text_buffer: String::new(alloc),
         }
     }
 
     /// The refusal of a step, for this reason.
     #[cold]
     #[inline(never)]
-    pub(crate) fn refusal(&self, reason: Reason) -> Refusal
-        ensures { IsRefusalFor reason (length self.now.out.items) result }
+    pub(crate) fn refusal(&self, reason: Reason) -> EventError
+        ensures { IsEventErrorFor reason (length self.now.out.items) result }
     {
-        Refusal::of(self.alloc, reason, self.out.len() as u64)
+        EventError::of(self.alloc, reason, self.out.len() as u64)
     }
 
     /// The whole document, by these options, which are the serializer's.
@@ -123,15 +123,15 @@ impl Writer {
     fn is_plain(&mut self, name: &str, case: Case) -> Step<bool>
         ensures plain { IfOk result
             (λ b. b ≡ is_plain self.old.options.integer_keys (spelled case Field name.now)) }
-        ensures rest { self.new ≡ record self.old { room = self.new.room } }
+        ensures rest { self.new ≡ record self.old { text_buffer = self.new.text_buffer } }
         ensures refused { IfErr result (λ why. why ≡ OutOfMemory) }
     {
         if !self.options.integer_keys {
             return Ok(true);
         }
-        self.room.clear();
-        case.append(NameKind::Field, name, &mut self.room)?;
-        Ok(number_of(self.room.as_str()).is_none())
+        self.text_buffer.clear();
+        case.append(NameKind::Field, name, &mut self.text_buffer)?;
+        Ok(number_of(self.text_buffer.as_str()).is_none())
     }
 
     // Writes the head of the map that waits.
@@ -168,7 +168,7 @@ impl Writer {
 
     // An array or a map begins.
     #[inline(never)]
-    #[tactic(auto, using(crate::proofs::Opening::few_around, crate::proofs::Contents::count_passes))]
+    #[tactic(auto, using(crate::proofs::Opening::few_around, crate::proofs::StringsInMemory::count_passes))]
     pub(crate) fn begin(&mut self, left: Option<u64>, is_map: bool) -> Step<()>
         ensures opens { OnOk result
             (let level = opened left is_map in
@@ -254,8 +254,8 @@ impl Writer {
         ensures options { self.new.options ≡ self.old.options }
         ensures refused { IfErr result (λ why. why ≡ OutOfMemory) }
     {
-        self.room.clear();
-        case.append(kind, name, &mut self.room)?;
-        put_name(&mut self.out, self.room.as_str(), as_integer)
+        self.text_buffer.clear();
+        case.append(kind, name, &mut self.text_buffer)?;
+        put_name(&mut self.out, self.text_buffer.as_str(), as_integer)
     }
 }

@@ -13,7 +13,7 @@ use Rattle.cbor_model.specs.Value.{put, by_order}
 use Rattle.cbor_model.proofs.order.HeadOrder.{least-cases}
 use Rattle.cbor_model.proofs.order.Pairs.{Less-trans, Greater-from_Less}
 use Rattle.cbor_model.proofs.values.ReadsBack.{followed_by, reads_back}
-use Rattle.cbor_model.proofs.reader.Taken.{Leaves}
+use Rattle.cbor_model.proofs.reader.BytesTaken.{Leaves}
 use Rattle.cbor_strict.specs.Departure.{floor}
 use Rattle.std.specs.declared.cmp.Ordering.TheVariants.{Less}
 

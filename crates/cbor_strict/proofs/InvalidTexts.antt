@@ -16,7 +16,7 @@ use Rattle.cbor_strict.specs.Walk.{departed, walk, walk_of}
 use Rattle.cbor_strict.proofs.WalkFronts.{walk_fuel}
 use Rattle.cbor_strict.proofs.Departed.{Climbs, climbs_on, climbs_to, least_of, head_climbs, length_climbs, enclosed_end, key_climbs, departures_climb, all_climb, pairs_climb, item_departs, cut, departed_shows}
 use Rattle.cbor_strict.proofs.Strict.{from_front}
-use Rattle.cbor_strict.proofs.Standing.{StandsIn, StandsInAll, StandsInPairs, Holds, holds_wanted}
+use Rattle.cbor_strict.proofs.ContainedTexts.{StandsIn, StandsInAll, StandsInPairs, Holds, holds_wanted}
 
 -- no element is above the last number
 high_of : (low high : ℕ) (xs : List ℕ) → Climbs low high xs → low ≤ high

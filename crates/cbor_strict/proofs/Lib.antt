@@ -5,7 +5,7 @@ pub mod WalkFronts
 pub mod Completed
 pub mod Departed
 pub mod Strict
-pub mod Standing
+pub mod ContainedTexts
 pub mod InvalidTexts
 pub mod FirstRefusals
 pub mod Walking

@@ -10,7 +10,7 @@ use Rattle.cbor_model.specs.Value.{by_order}
 use Rattle.cbor_model.specs.Reader.{Reads, ended, number_at, number_behind, width_of}
 use Rattle.cbor_strict.specs.Departure.{floor}
 use Rattle.cbor_strict.specs.Walk.{Walk, passed, departed, stopped, and_then, past, on_shortest, with_shortest, with_count, simple_walk, all_walk, above, pairs_walk, content_walk, walk}
-use Rattle.cbor_model.proofs.reader.Taken.{Leaves}
+use Rattle.cbor_model.proofs.reader.BytesTaken.{Leaves}
 use Rattle.cbor_strict.proofs.Copied.{number_behind_leaves}
 
 -- ---- fewer bytes are left than these

@@ -6,12 +6,12 @@
 //! It names `serde_cbor`, `cbor_diagnostic`, the definitions of `cbor_model`, and the kit's `hex`.
 #![tactic(auto)]
 
+mod arguments;
 mod laws;
 mod program;
 mod sequence;
 #[cfg(test)]
 mod tests;
-mod words;
 
 use crate::program::{Mode, run, run_by_rules, run_in, run_strict};
 use crate::sequence::run_sequence;
@@ -45,7 +45,7 @@ fn answer_input(rt: &HostRuntime) -> Result<bool> {
     let words = read_words(rt)?;
     let mut reader = BufReader::new(rt.alloc(), rt.stdin()).map_err(|_| AllocError)?;
     let mut writer = rt.stdout();
-    match words::mode(&words) {
+    match arguments::mode(&words) {
         Some(Mode::Lenient) => run(rt.alloc(), &mut reader, &mut writer)?,
         Some(Mode::Strict) => run_strict(rt.alloc(), &mut reader, &mut writer)?,
         Some(Mode::ByRules(preset)) => {
@@ -53,7 +53,7 @@ fn answer_input(rt: &HostRuntime) -> Result<bool> {
         }
         Some(mode) => run_in(mode, rt.alloc(), &mut reader, &mut writer)?,
         None => {
-            let Some(form) = words::form(&words) else {
+            let Some(form) = arguments::form(&words) else {
                 return Ok(false);
             };
             run_sequence(form, rt.alloc(), reader, &mut writer)?;

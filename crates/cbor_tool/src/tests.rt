@@ -1,6 +1,6 @@
+use crate::arguments;
 use crate::program::{Mode, Preset, run, run_by_rules, run_in, run_strict};
 use crate::sequence::{Form, run_sequence};
-use crate::words;
 use serde_cbor::Result;
 use std::alloc::{AllocError, Global};
 use std::fmt::InlineText;
@@ -440,15 +440,15 @@ fn stops_at_each_item_whose_answer_is_not_written(rt: HostRuntime) -> Result<()>
 fn chooses_the_form_by_words(rt: HostRuntime) -> Result<()> {
     let alloc = rt.alloc();
     let mut words = Vec::new(alloc);
-    assert!(rt; words::form(&words).is_none());
+    assert!(rt; arguments::form(&words).is_none());
     words.push("diagnose".to_owned(alloc)?)?;
-    assert!(rt; matches!(words::mode(&words), Some(Mode::Diagnose)));
+    assert!(rt; matches!(arguments::mode(&words), Some(Mode::Diagnose)));
     words.push("--pretty".to_owned(alloc)?)?;
-    assert!(rt; matches!(words::mode(&words), Some(Mode::DiagnosePretty)));
-    assert!(rt; words::form(&words).is_none());
+    assert!(rt; matches!(arguments::mode(&words), Some(Mode::DiagnosePretty)));
+    assert!(rt; arguments::form(&words).is_none());
     words.push("raw".to_owned(alloc)?)?;
-    assert!(rt; words::mode(&words).is_none());
-    assert!(rt; matches!(words::form(&words), Some(Form::PrettyNotation)));
+    assert!(rt; arguments::mode(&words).is_none());
+    assert!(rt; matches!(arguments::form(&words), Some(Form::PrettyNotation)));
     Ok(())
 }
 
@@ -456,17 +456,17 @@ fn chooses_the_form_by_words(rt: HostRuntime) -> Result<()> {
 fn chooses_the_mode_by_words(rt: HostRuntime) -> Result<()> {
     let alloc = rt.alloc();
     let mut words = Vec::new(alloc);
-    assert!(rt; matches!(words::mode(&words), Some(Mode::Lenient)));
+    assert!(rt; matches!(arguments::mode(&words), Some(Mode::Lenient)));
     words.push("strict".to_owned(alloc)?)?;
-    assert!(rt; matches!(words::mode(&words), Some(Mode::Strict)));
+    assert!(rt; matches!(arguments::mode(&words), Some(Mode::Strict)));
     words.push("strict".to_owned(alloc)?)?;
-    assert!(rt; words::mode(&words).is_none());
+    assert!(rt; arguments::mode(&words).is_none());
     words.clear();
     words.push("length-first".to_owned(alloc)?)?;
-    let by_length = words::mode(&words);
+    let by_length = arguments::mode(&words);
     assert!(rt; matches!(by_length, Some(Mode::ByRules(Preset::LengthFirst))));
     words.clear();
     words.push("Strict".to_owned(alloc)?)?;
-    assert!(rt; words::mode(&words).is_none());
+    assert!(rt; arguments::mode(&words).is_none());
     Ok(())
 }

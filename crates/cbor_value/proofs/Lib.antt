@@ -7,5 +7,5 @@ pub mod Numbers
 pub mod Pointers
 pub mod Sorting
 pub mod Views
-pub mod Walks
+pub mod ValuesInMemory
 pub mod facts

@@ -1,2 +1,2 @@
-pub mod Sent
+pub mod SentBlocks
 pub mod Values

@@ -1,6 +1,6 @@
 -- What a sink means that goes to a writer by blocks.
 use Rattle.std.specs.Prelude.{ℕ, List, take, drop, Option}
-use Rattle.cbor_writer.specs.Given.{given}
+use Rattle.cbor_writer.specs.GivenByBlocks.{given}
 use Rattle.cbor_writer.specs.declared.blocks.Blocks.{Blocks}
 
 -- which writer it stands before, by the name of the reference to it

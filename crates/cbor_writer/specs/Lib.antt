@@ -1,3 +1,3 @@
-pub mod Given
+pub mod GivenByBlocks
 pub mod Held
 pub mod Unsent

@@ -33,7 +33,7 @@ impl<'a, W: io::Write> Blocks<'a, W> {
     ghost use Rattle.std.specs.Prelude.{[]};
     ghost use Rattle.cbor_io.specs.Write.{IsFault, Wrote};
     ghost use Rattle.cbor_writer.specs.Held.{contents_of, given_to, reference_of, unsent_in};
-    ghost use Rattle.cbor_writer.specs.Given.{given};
+    ghost use Rattle.cbor_writer.specs.GivenByBlocks.{given};
 
     // The writer, with nothing held.
     pub(super) fn new(writer: &'a mut W) -> Blocks<'a, W>

@@ -142,7 +142,7 @@ impl<W: io::Write> BufferedWrite<W> {
     fn send_block(&mut self) -> io::Result<()>
         ensures kept { Keeps (buffered_contents W.contents self.old)
             (buffered_contents W.contents self.new) }
-        ensures room { OnOk result (self.new.held ≡ 0) }
+        ensures emptied { OnOk result (self.new.held ≡ 0) }
         ensures same_block { vec_len self.new.block ≡ vec_len self.old.block }
     {
         let (count, answer) = send(&mut self.writer, &self.block[self.sent..self.held], 0);

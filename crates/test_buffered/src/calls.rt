@@ -7,13 +7,13 @@ use cbor_buffered::BufferedRead;
 use std::alloc::{AllocError, Global};
 use std::process::Abort;
 use std::test::Fail;
-use test_checks::Done;
+use test_checks::Verdict;
 
 // How many bytes a reader gives a call.
 const PIECES: [usize; 3] = [1, 7, 10_000];
 
 /// The source of these bytes, of which its reader gives so many a call, answers so.
-fn answers(rt: &impl Abort, alloc: Global, bytes: &[u8], piece: usize, script: &[Step]) -> Done {
+fn answers(rt: &impl Abort, alloc: Global, bytes: &[u8], piece: usize, script: &[Step]) -> Verdict {
     plays(rt, alloc, &mut in_pieces(alloc, bytes, piece)?, script)
 }
 
@@ -38,7 +38,7 @@ const HANDS_OUT: &[Step] = &[
 ];
 
 #[test]
-fn hands_out_each_byte_once_and_in_order(rt: HostRuntime) -> Done {
+fn hands_out_each_byte_once_and_in_order(rt: HostRuntime) -> Verdict {
     for piece in PIECES {
         answers(&rt, rt.alloc(), b"abcdefghijklmn", piece, HANDS_OUT)?;
     }
@@ -61,7 +61,7 @@ fn part(bytes: &[u8], start: usize, end: usize) -> Result<&[u8], Fail> {
 
 // Blocks of 8 KiB end within each part.
 #[test]
-fn hands_out_what_is_longer_than_a_block(rt: HostRuntime) -> Done {
+fn hands_out_what_is_longer_than_a_block(rt: HostRuntime) -> Verdict {
     let bytes = long(rt.alloc())?;
     let script = [
         Step::Read(part(&bytes, 0, 9000)?),
@@ -85,7 +85,7 @@ const COUNTS_UTF8: &[Step] = &[
 
 // A euro sign, a byte that is in no UTF-8, and a part of a sign (RFC 3629, section 3).
 #[test]
-fn counts_the_utf8_of_what_it_skips(rt: HostRuntime) -> Done {
+fn counts_the_utf8_of_what_it_skips(rt: HostRuntime) -> Verdict {
     for piece in PIECES {
         answers(
             &rt,
@@ -106,7 +106,7 @@ fn leaves(
     source: BufferedRead<Pieces<'_>>,
     script: &[Step],
     (ahead, rest, calls): (&[u8], &[u8], usize),
-) -> Done {
+) -> Verdict {
     let mut source = source;
     plays(rt, alloc, &mut source, script)?;
     let (reader, unread) = source.into_inner();
@@ -124,13 +124,13 @@ const FROM_A_BLOCK: &[Step] = &[
 ];
 
 #[test]
-fn asks_its_reader_once_for_what_is_in_a_block(rt: HostRuntime) -> Done {
+fn asks_its_reader_once_for_what_is_in_a_block(rt: HostRuntime) -> Verdict {
     let source = in_pieces(rt.alloc(), b"abcdef", 10)?;
     leaves(&rt, rt.alloc(), source, FROM_A_BLOCK, (b"", b"", 1))
 }
 
 #[test]
-fn hands_back_what_it_read_ahead(rt: HostRuntime) -> Done {
+fn hands_back_what_it_read_ahead(rt: HostRuntime) -> Verdict {
     let alloc = rt.alloc();
     let unasked = in_pieces(alloc, b"abcdefgh", 5)?;
     leaves(&rt, alloc, unasked, &[], (b"", b"abcdefgh", 0))?;
@@ -160,7 +160,7 @@ const ENDS_THERE: &[Step] = &[
 
 // Offsets are below 2^64: a byte at the last of them can't be counted, and an end there is an end.
 #[test]
-fn counts_no_byte_past_the_last_offset(rt: HostRuntime) -> Done {
+fn counts_no_byte_past_the_last_offset(rt: HostRuntime) -> Verdict {
     let alloc = rt.alloc();
     for (bytes, script, left) in [
         (&b"\x01\x02"[..], NO_BYTE_PAST, &b"\x02"[..]),
@@ -175,7 +175,7 @@ fn counts_no_byte_past_the_last_offset(rt: HostRuntime) -> Done {
 }
 
 #[test]
-fn prints_no_bytes(rt: HostRuntime) -> Done {
+fn prints_no_bytes(rt: HostRuntime) -> Verdict {
     let mut source = in_pieces(rt.alloc(), b"ab", 2)?;
     is_next(&rt, &mut source, Some(b'a'))?;
     let text = format!(in rt.alloc(); "{source:?}")?;

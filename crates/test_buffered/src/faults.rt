@@ -6,7 +6,7 @@ use cbor_buffered::BufferedRead;
 use std::alloc::Global;
 use std::io::ErrorKind;
 use std::process::Abort;
-use test_checks::Done;
+use test_checks::Verdict;
 
 const KINDS: [ErrorKind; 3] = [
     ErrorKind::BrokenPipe,
@@ -15,14 +15,14 @@ const KINDS: [ErrorKind; 3] = [
 ];
 
 // Three bytes come before the fault, and the others after it.
-fn fails(rt: &impl Abort, alloc: Global, kind: ErrorKind, script: &[Step]) -> Done {
+fn fails(rt: &impl Abort, alloc: Global, kind: ErrorKind, script: &[Step]) -> Verdict {
     let reader = Pieces::failing(b"abcdef", 3, 2, kind);
     plays(rt, alloc, &mut BufferedRead::new(alloc, reader)?, script)
 }
 
 // An interruption is reported as any fault, and not tried again.
 #[test]
-fn reports_a_fault_after_what_came_before_it(rt: HostRuntime) -> Done {
+fn reports_a_fault_after_what_came_before_it(rt: HostRuntime) -> Verdict {
     for kind in KINDS {
         let script = [
             Step::Read(b"abc"),
@@ -37,7 +37,7 @@ fn reports_a_fault_after_what_came_before_it(rt: HostRuntime) -> Done {
 }
 
 #[test]
-fn reports_a_fault_within_a_part(rt: HostRuntime) -> Done {
+fn reports_a_fault_within_a_part(rt: HostRuntime) -> Verdict {
     for kind in KINDS {
         for call in [
             Call::Read(4),

@@ -11,7 +11,7 @@ use cbor_value::Value;
 use std::alloc::Global;
 use std::process::Abort;
 use std::test::Fail;
-use test_checks::{Done, is_refused};
+use test_checks::{Verdict, is_refused};
 
 // How many bytes a reader gives a call.
 pub const PIECES: [usize; 3] = [1, 7, 10_000];
@@ -57,7 +57,7 @@ pub fn example(
 }
 
 /// The value has this notation.
-pub fn is_noted(rt: &impl Abort, alloc: Global, value: &Value, notation: &str) -> Done {
+pub fn is_noted(rt: &impl Abort, alloc: Global, value: &Value, notation: &str) -> Verdict {
     assert!(rt; to_diagnostic(alloc, value)?.as_str() == notation);
     Ok(())
 }
@@ -73,7 +73,7 @@ fn next(de: &mut Reader<'_>) -> Answer<Value> {
     Value::deserialize(de)
 }
 
-fn is_read(rt: &impl Abort, alloc: Global, bytes: &[u8], piece: usize, want: &str) -> Done {
+fn is_read(rt: &impl Abort, alloc: Global, bytes: &[u8], piece: usize, want: &str) -> Verdict {
     let mut de = reader(alloc, bytes, piece)?;
     is_noted(rt, alloc, &next(&mut de)?, want)?;
     de.end()?;
@@ -81,7 +81,7 @@ fn is_read(rt: &impl Abort, alloc: Global, bytes: &[u8], piece: usize, want: &st
 }
 
 #[test]
-fn reads_the_examples_of_the_standard(rt: HostRuntime) -> Done {
+fn reads_the_examples_of_the_standard(rt: HostRuntime) -> Verdict {
     for piece in PIECES {
         for (bytes, notation) in &EXAMPLES {
             is_read(&rt, rt.alloc(), bytes, piece, notation)?;
@@ -90,7 +90,7 @@ fn reads_the_examples_of_the_standard(rt: HostRuntime) -> Done {
     Ok(())
 }
 
-fn streams(rt: &impl Abort, alloc: Global, piece: usize) -> Done {
+fn streams(rt: &impl Abort, alloc: Global, piece: usize) -> Verdict {
     let source = BufferedRead::new(alloc, Pieces::new(b"\x01\x18\x2a\x19\x03\xe8", piece))?;
     let mut stream = StreamDeserializer::<_, u16>::new(alloc, source);
     for (want, offset) in [(1, 1), (42, 3), (1000, 6)] {
@@ -102,7 +102,7 @@ fn streams(rt: &impl Abort, alloc: Global, piece: usize) -> Done {
 }
 
 #[test]
-fn reads_a_sequence(rt: HostRuntime) -> Done {
+fn reads_a_sequence(rt: HostRuntime) -> Verdict {
     for piece in PIECES {
         streams(&rt, rt.alloc(), piece)?;
     }
@@ -111,7 +111,7 @@ fn reads_a_sequence(rt: HostRuntime) -> Done {
 
 // Within a head, within a string, and where the last element of an array is wanted.
 #[test]
-fn refuses_what_ends_too_early(rt: HostRuntime) -> Done {
+fn refuses_what_ends_too_early(rt: HostRuntime) -> Verdict {
     for piece in PIECES {
         for bytes in [b"\x19\x03", b"\x64I", b"\x82\x01"] {
             let mut de = reader(rt.alloc(), bytes, piece)?;
@@ -123,7 +123,7 @@ fn refuses_what_ends_too_early(rt: HostRuntime) -> Done {
 
 // A text of 9,000 bytes that is given in pieces, behind another item.
 #[test]
-fn reads_a_text_that_is_longer_than_a_block(rt: HostRuntime) -> Done {
+fn reads_a_text_that_is_longer_than_a_block(rt: HostRuntime) -> Verdict {
     let alloc = rt.alloc();
     let mut bytes = Vec::from_slice(alloc, b"\x01\x79\x23\x28")?;
     bytes.resize(9004, b'x')?;

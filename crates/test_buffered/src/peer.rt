@@ -6,7 +6,7 @@ use cbor_value::Value;
 use std::alloc::Global;
 use std::io;
 use std::process::Abort;
-use test_checks::Done;
+use test_checks::Verdict;
 
 /// A peer that sends these messages, one a call, and counts the calls.
 #[derive(Drop)]
@@ -29,7 +29,7 @@ impl io::Read for Peer<'_> {
 }
 
 /// By the first item so many calls were made of the reader.
-fn asks(rt: &impl Abort, alloc: Global, messages: &[&[u8]], calls: usize) -> Done {
+fn asks(rt: &impl Abort, alloc: Global, messages: &[&[u8]], calls: usize) -> Verdict {
     let mut peer = Peer { messages, calls: 0 };
     let source = BufferedRead::new(alloc, &mut peer)?;
     let mut stream = StreamDeserializer::<_, Value>::new(alloc, source);
@@ -58,7 +58,7 @@ const ITEMS: [&'static [u8]; 13] = [
 
 // Each in a message of its own, and with the front of the next.
 #[test]
-fn asks_for_nothing_behind_an_item(rt: HostRuntime) -> Done {
+fn asks_for_nothing_behind_an_item(rt: HostRuntime) -> Verdict {
     let alloc = rt.alloc();
     for item in ITEMS {
         asks(&rt, alloc, &[item, item], 1)?;
@@ -71,7 +71,7 @@ fn asks_for_nothing_behind_an_item(rt: HostRuntime) -> Done {
 
 // Each in two messages, cut at each place.
 #[test]
-fn asks_for_what_an_item_lacks_alone(rt: HostRuntime) -> Done {
+fn asks_for_what_an_item_lacks_alone(rt: HostRuntime) -> Verdict {
     let alloc = rt.alloc();
     for item in ITEMS {
         for at in 1..item.len() {

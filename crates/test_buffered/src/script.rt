@@ -7,7 +7,7 @@ use std::alloc::Global;
 use std::io::ErrorKind;
 use std::process::Abort;
 use std::test::Fail;
-use test_checks::Done;
+use test_checks::Verdict;
 
 /// A call of the source, with how many bytes it asks for.
 #[derive(Clone, Copy)]
@@ -60,7 +60,7 @@ pub fn plays<'de, R: Read<'de> + Offset>(
     alloc: Global,
     source: &mut R,
     script: &[Step],
-) -> Done {
+) -> Verdict {
     for step in script {
         match *step {
             Step::Next(want) => is_next(rt, source, want)?,
@@ -100,7 +100,7 @@ fn done<'de, R: Read<'de>>(alloc: Global, source: &mut R, call: Call) -> Result<
 }
 
 // What a call shows that takes no byte from the reader.
-fn is_at_hand<S: Source + Offset>(rt: &impl Abort, source: &mut S, step: &Step) -> Done {
+fn is_at_hand<S: Source + Offset>(rt: &impl Abort, source: &mut S, step: &Step) -> Verdict {
     match *step {
         Step::Clear => source.clear_buffer(),
         Step::Buffer(want) => assert!(rt; source.buffer() == want),

@@ -11,7 +11,7 @@ use std::alloc::{AllocError, Global};
 use std::io::ErrorKind;
 use std::process::Abort;
 use std::test::Fail;
-use test_checks::Done;
+use test_checks::Verdict;
 
 /// A sink before a writer that takes so many bytes a call.
 fn in_pieces(alloc: Global, piece: usize) -> Answer<BufferedWrite<Taker>> {
@@ -19,7 +19,7 @@ fn in_pieces(alloc: Global, piece: usize) -> Answer<BufferedWrite<Taker>> {
 }
 
 /// The call reports a fault of the writer, of this kind.
-pub fn is_fault(rt: &impl Abort, answer: Answer<()>, kind: ErrorKind) -> Done {
+pub fn is_fault(rt: &impl Abort, answer: Answer<()>, kind: ErrorKind) -> Verdict {
     let Err(e) = answer else {
         return Err(Fail::from("no fault"));
     };
@@ -41,7 +41,7 @@ fn sends(rt: &impl Abort, sink: BufferedWrite<Taker>) -> Result<Taker, Fail> {
     Ok(writer)
 }
 
-fn is_written(rt: &impl Abort, alloc: Global, piece: usize, value: &Value, want: &[u8]) -> Done {
+fn is_written(rt: &impl Abort, alloc: Global, piece: usize, value: &Value, want: &[u8]) -> Verdict {
     let mut ser = Serializer::new(alloc, in_pieces(alloc, piece)?);
     value.serialize(&mut ser)?;
     let writer = sends(rt, ser.into_inner())?;
@@ -50,7 +50,7 @@ fn is_written(rt: &impl Abort, alloc: Global, piece: usize, value: &Value, want:
 }
 
 #[test]
-fn writes_the_examples_of_the_standard(rt: HostRuntime) -> Done {
+fn writes_the_examples_of_the_standard(rt: HostRuntime) -> Verdict {
     let alloc = rt.alloc();
     for (bytes, notation) in &WRITTEN {
         let value = example(&rt, alloc, bytes, notation)?;
@@ -71,7 +71,7 @@ pub fn numbers(alloc: Global) -> Result<Vec<u16>, AllocError> {
 }
 
 /// Their array: a head of three bytes, and three for each of them (RFC 8949, section 3).
-pub fn are_numbers(rt: &impl Abort, bytes: &[u8]) -> Done {
+pub fn are_numbers(rt: &impl Abort, bytes: &[u8]) -> Verdict {
     assert!(rt; bytes.len() == 9003);
     assert!(rt; bytes.get(..3) == Some(b"\x99\x0b\xb8".as_slice()));
     for i in 0..3000_u16 {
@@ -93,7 +93,7 @@ fn writes_numbers(rt: &impl Abort, alloc: Global, piece: usize) -> Result<usize,
 
 // 2,730 pieces of three bytes fit in the block: 8,190 bytes are sent, and then 813.
 #[test]
-fn writes_a_list_that_is_longer_than_a_block(rt: HostRuntime) -> Done {
+fn writes_a_list_that_is_longer_than_a_block(rt: HostRuntime) -> Verdict {
     for (piece, calls) in [(1, 9003), (4099, 3), (20_000, 2)] {
         assert!(&rt; writes_numbers(&rt, rt.alloc(), piece)? == calls);
     }
@@ -111,7 +111,7 @@ enum Step<'a> {
     FlushFails(ErrorKind),
 }
 
-fn plays(rt: &impl Abort, sink: &mut BufferedWrite<Taker>, script: &[Step]) -> Done {
+fn plays(rt: &impl Abort, sink: &mut BufferedWrite<Taker>, script: &[Step]) -> Verdict {
     for step in script {
         match *step {
             Step::Write(bytes) => sink.write_all(bytes)?,
@@ -149,7 +149,7 @@ fn long(alloc: Global) -> Result<Vec<u8>, AllocError> {
 
 // The text goes straight to the writer, behind what is held.
 #[test]
-fn writes_a_piece_that_is_longer_than_a_block(rt: HostRuntime) -> Done {
+fn writes_a_piece_that_is_longer_than_a_block(rt: HostRuntime) -> Verdict {
     let alloc = rt.alloc();
     let text = vec![in alloc; b'x'; 9000]?;
     let script = [
@@ -170,7 +170,7 @@ fn writes_a_piece_that_is_longer_than_a_block(rt: HostRuntime) -> Done {
 }
 
 #[test]
-fn holds_what_is_written_until_it_is_flushed(rt: HostRuntime) -> Done {
+fn holds_what_is_written_until_it_is_flushed(rt: HostRuntime) -> Verdict {
     let alloc = rt.alloc();
     let unflushed = [Step::Write(b"ab"), Step::Write(b"c")];
     leaves(
@@ -198,7 +198,7 @@ fn leaves_at_fault(
 }
 
 #[test]
-fn keeps_what_a_fault_leaves_unsent(rt: HostRuntime) -> Done {
+fn keeps_what_a_fault_leaves_unsent(rt: HostRuntime) -> Verdict {
     let kind = ErrorKind::BrokenPipe;
     let script = [
         Step::Write(b"abcdef"),
@@ -215,7 +215,7 @@ fn keeps_what_a_fault_leaves_unsent(rt: HostRuntime) -> Done {
 // The fault comes while the block is sent, of which two bytes were, and so none of the piece is
 // written; or within the piece, of which four bytes were.
 #[test]
-fn reports_a_fault_at_a_piece_of_a_block(rt: HostRuntime) -> Done {
+fn reports_a_fault_at_a_piece_of_a_block(rt: HostRuntime) -> Verdict {
     let alloc = rt.alloc();
     let kind = ErrorKind::StorageFull;
     let piece = vec![in alloc; b'x'; 8192]?;
@@ -231,7 +231,7 @@ fn reports_a_fault_at_a_piece_of_a_block(rt: HostRuntime) -> Done {
 }
 
 #[test]
-fn tries_an_interrupted_write_again(rt: HostRuntime) -> Done {
+fn tries_an_interrupted_write_again(rt: HostRuntime) -> Verdict {
     let script = [Step::Write(b"abcde"), Step::Flush];
     let fault = (2, ErrorKind::Interrupted);
     let writer = leaves_at_fault(&rt, rt.alloc(), fault, &script, (b"abcde", b""))?;
@@ -240,7 +240,7 @@ fn tries_an_interrupted_write_again(rt: HostRuntime) -> Done {
 }
 
 #[test]
-fn tries_an_interrupted_write_again_however_often(rt: HostRuntime) -> Done {
+fn tries_an_interrupted_write_again_however_often(rt: HostRuntime) -> Verdict {
     let alloc = rt.alloc();
     let script = [Step::Write(b"abcde"), Step::Flush];
     for times in [2, 1000, 100_000] {
@@ -251,7 +251,7 @@ fn tries_an_interrupted_write_again_however_often(rt: HostRuntime) -> Done {
 }
 
 #[test]
-fn reports_a_writer_that_takes_nothing(rt: HostRuntime) -> Done {
+fn reports_a_writer_that_takes_nothing(rt: HostRuntime) -> Verdict {
     let alloc = rt.alloc();
     let script = [
         Step::Flush,
@@ -263,7 +263,7 @@ fn reports_a_writer_that_takes_nothing(rt: HostRuntime) -> Done {
 }
 
 #[test]
-fn prints_how_much_is_held(rt: HostRuntime) -> Done {
+fn prints_how_much_is_held(rt: HostRuntime) -> Verdict {
     let mut sink = in_pieces(rt.alloc(), 2)?;
     sink.write_all(b"ab")?;
     let text = format!(in rt.alloc(); "{sink:?}")?;

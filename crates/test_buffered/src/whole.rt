@@ -10,7 +10,7 @@ use std::alloc::{AllocError, Global};
 use std::io::ErrorKind;
 use std::process::Abort;
 use std::test::Fail;
-use test_checks::{Done, is_refused};
+use test_checks::{Verdict, is_refused};
 
 // The head of an array or a text, and then so often this byte that there are so many in all.
 fn filled(alloc: Global, head: &[u8], length: usize, byte: u8) -> Result<Vec<u8>, AllocError> {
@@ -41,7 +41,7 @@ fn is_read(
 }
 
 #[test]
-fn reads_the_examples_of_the_standard(rt: HostRuntime) -> Done {
+fn reads_the_examples_of_the_standard(rt: HostRuntime) -> Verdict {
     for piece in PIECES {
         for (bytes, notation) in &EXAMPLES {
             is_read(&rt, rt.alloc(), bytes, piece, notation)?;
@@ -52,7 +52,7 @@ fn reads_the_examples_of_the_standard(rt: HostRuntime) -> Done {
 
 // 5,003 bytes by 1,024 or by 7 a call, and a last call, which gives none.
 #[test]
-fn reads_a_list_by_few_calls(rt: HostRuntime) -> Done {
+fn reads_a_list_by_few_calls(rt: HostRuntime) -> Verdict {
     let bytes = filled(rt.alloc(), b"\x99\x13\x88", 5003, 7)?;
     for (piece, calls) in [(10_000, 6), (7, 716)] {
         let mut reader = Pieces::new(&bytes, piece);
@@ -65,7 +65,7 @@ fn reads_a_list_by_few_calls(rt: HostRuntime) -> Done {
 
 // The same of a text, 3,003 bytes.
 #[test]
-fn reads_a_text_by_few_calls(rt: HostRuntime) -> Done {
+fn reads_a_text_by_few_calls(rt: HostRuntime) -> Verdict {
     let bytes = filled(rt.alloc(), b"\x79\x0b\xb8", 3003, b'x')?;
     for (piece, calls) in [(10_000, 4), (7, 430)] {
         let mut reader = Pieces::new(&bytes, piece);
@@ -78,7 +78,7 @@ fn reads_a_text_by_few_calls(rt: HostRuntime) -> Done {
 
 // One call for the item, and one for the end.
 #[test]
-fn reads_a_short_item_by_two_calls(rt: HostRuntime) -> Done {
+fn reads_a_short_item_by_two_calls(rt: HostRuntime) -> Verdict {
     let calls = is_read(&rt, rt.alloc(), b"\x19\x03\xe8", 10_000, "1000")?;
     assert!(&rt; calls == 2);
     Ok(())
@@ -86,7 +86,7 @@ fn reads_a_short_item_by_two_calls(rt: HostRuntime) -> Done {
 
 // A break, and then bytes of which 1,023 are gone.
 #[test]
-fn leaves_what_is_beyond_the_block(rt: HostRuntime) -> Done {
+fn leaves_what_is_beyond_the_block(rt: HostRuntime) -> Verdict {
     let alloc = rt.alloc();
     let bytes = filled(alloc, b"\xff", 5000, 0)?;
     let mut reader = Pieces::new(&bytes, 10_000);
@@ -97,7 +97,7 @@ fn leaves_what_is_beyond_the_block(rt: HostRuntime) -> Done {
 
 // A fault that comes with the second block; what was read before ends within the list.
 #[test]
-fn tells_a_fault_of_a_later_call(rt: HostRuntime) -> Done {
+fn tells_a_fault_of_a_later_call(rt: HostRuntime) -> Verdict {
     let alloc = rt.alloc();
     let bytes = filled(alloc, b"\x99\x13\x88", 5003, 7)?;
     let mut reader = Pieces::failing(&bytes, 10_000, 2, ErrorKind::BrokenPipe);

@@ -11,10 +11,10 @@ use std::alloc::{AllocError, Global};
 use std::io::ErrorKind;
 use std::process::Abort;
 use std::test::Fail;
-use test_checks::{Done, is_refused};
+use test_checks::{Verdict, is_refused};
 
 /// The writer takes so many bytes a call, and is given these.
-fn is_given(rt: &impl Abort, alloc: Global, piece: usize, value: &Value, want: &[u8]) -> Done {
+fn is_given(rt: &impl Abort, alloc: Global, piece: usize, value: &Value, want: &[u8]) -> Verdict {
     let mut writer = Taker::new(alloc, piece)?;
     to_io_writer(alloc, &mut writer, value)?;
     assert!(rt; writer.taken.as_slice() == want);
@@ -23,7 +23,7 @@ fn is_given(rt: &impl Abort, alloc: Global, piece: usize, value: &Value, want: &
 }
 
 #[test]
-fn gives_the_examples_of_the_standard(rt: HostRuntime) -> Done {
+fn gives_the_examples_of_the_standard(rt: HostRuntime) -> Verdict {
     let alloc = rt.alloc();
     for (bytes, notation) in &WRITTEN {
         let value = example(&rt, alloc, bytes, notation)?;
@@ -35,7 +35,7 @@ fn gives_the_examples_of_the_standard(rt: HostRuntime) -> Done {
 }
 
 #[test]
-fn goes_on_behind_what_the_writer_has(rt: HostRuntime) -> Done {
+fn goes_on_behind_what_the_writer_has(rt: HostRuntime) -> Verdict {
     let alloc = rt.alloc();
     let mut file: Vec<u8> = Vec::with_capacity(alloc, 8)?;
     to_io_writer(alloc, &mut file, &"IETF")?;
@@ -58,7 +58,7 @@ fn gives_numbers(rt: &impl Abort, alloc: Global, piece: usize) -> Result<usize, 
 
 // 341 pieces of three bytes fit in a block: of 9,003 bytes there are eight such blocks, and a rest.
 #[test]
-fn gives_a_list_by_blocks(rt: HostRuntime) -> Done {
+fn gives_a_list_by_blocks(rt: HostRuntime) -> Verdict {
     for (piece, calls) in [(1, 9003), (700, 18), (20_000, 9)] {
         assert!(&rt; gives_numbers(&rt, rt.alloc(), piece)? == calls);
     }
@@ -75,7 +75,7 @@ fn text(alloc: Global, len: usize) -> Result<Value, Fail> {
 }
 
 /// `[1, text, null]` with a text of so many bytes, from 256 on (RFC 8949, section 3).
-fn is_between(rt: &impl Abort, bytes: &[u8], len: u16) -> Done {
+fn is_between(rt: &impl Abort, bytes: &[u8], len: u16) -> Verdict {
     let [high, low] = len.to_be_bytes();
     let end = 5 + len as usize;
     assert!(rt; bytes.get(..5) == Some([0x83, 0x01, 0x79, high, low].as_slice()));
@@ -95,7 +95,7 @@ fn gives_between(rt: &impl Abort, alloc: Global, piece: usize, len: u16) -> Resu
 // A text around a block's length, and one of several: what has no room in the block goes behind it,
 // and what is as long as a block by itself.
 #[test]
-fn gives_texts_of_any_length(rt: HostRuntime) -> Done {
+fn gives_texts_of_any_length(rt: HostRuntime) -> Verdict {
     for piece in [1, 700, 20_000] {
         for len in [256, 1018, 1019, 1020, 1023, 1024, 1025, 2048, 9000] {
             gives_between(&rt, rt.alloc(), piece, len)?;
@@ -113,7 +113,7 @@ fn gives_foobar(alloc: Global, writer: &mut Taker) -> Answer<()> {
 
 // The writer takes two bytes a call, and is asked for nothing after the call that fails.
 #[test]
-fn leaves_a_prefix_at_a_fault(rt: HostRuntime) -> Done {
+fn leaves_a_prefix_at_a_fault(rt: HostRuntime) -> Verdict {
     let kind = ErrorKind::StorageFull;
     for (call, taken) in [
         (1, &b""[..]),
@@ -130,7 +130,7 @@ fn leaves_a_prefix_at_a_fault(rt: HostRuntime) -> Done {
 }
 
 /// Of the list's bytes so many are given before the fault, and none after it.
-fn list_fails_at(rt: &impl Abort, alloc: Global, call: usize, count: usize) -> Done {
+fn list_fails_at(rt: &impl Abort, alloc: Global, call: usize, count: usize) -> Verdict {
     let list = numbers(alloc)?;
     let mut whole = Taker::new(alloc, 20_000)?;
     gives_list(alloc, &mut whole, &list)?;
@@ -145,7 +145,7 @@ fn list_fails_at(rt: &impl Abort, alloc: Global, call: usize, count: usize) -> D
 
 // A block of 1,023 bytes goes by two calls, of 700 bytes and 323; the last, of 819, too.
 #[test]
-fn sends_nothing_after_a_fault(rt: HostRuntime) -> Done {
+fn sends_nothing_after_a_fault(rt: HostRuntime) -> Verdict {
     for (call, count) in [
         (1, 0),
         (2, 700),
@@ -160,7 +160,7 @@ fn sends_nothing_after_a_fault(rt: HostRuntime) -> Done {
 }
 
 #[test]
-fn tries_again_after_an_interruption(rt: HostRuntime) -> Done {
+fn tries_again_after_an_interruption(rt: HostRuntime) -> Verdict {
     for call in 1..=4 {
         let mut writer = Taker::failing(rt.alloc(), 2, call, ErrorKind::Interrupted)?;
         gives_foobar(rt.alloc(), &mut writer)?;
@@ -171,7 +171,7 @@ fn tries_again_after_an_interruption(rt: HostRuntime) -> Done {
 }
 
 #[test]
-fn reports_a_writer_of_nothing(rt: HostRuntime) -> Done {
+fn reports_a_writer_of_nothing(rt: HostRuntime) -> Verdict {
     let mut writer = Taker::new(rt.alloc(), 0)?;
     let answer = gives_foobar(rt.alloc(), &mut writer);
     is_fault(&rt, answer, ErrorKind::WriteZero)
@@ -190,7 +190,13 @@ fn too_far_out(alloc: Global, nulls: usize) -> Result<Value, AllocError> {
 }
 
 /// Of what stands before the number, a head and so many times null, so many bytes are given.
-fn stops_before(rt: &impl Abort, alloc: Global, nulls: usize, head: &[u8], count: usize) -> Done {
+fn stops_before(
+    rt: &impl Abort,
+    alloc: Global,
+    nulls: usize,
+    head: &[u8],
+    count: usize,
+) -> Verdict {
     let value = too_far_out(alloc, nulls)?;
     let mut writer = Taker::new(alloc, 20_000)?;
     let answer: Answer<()> = to_io_writer(alloc, &mut writer, &value);
@@ -203,7 +209,7 @@ fn stops_before(rt: &impl Abort, alloc: Global, nulls: usize, head: &[u8], count
 
 // What the block holds at the refusal isn't sent.
 #[test]
-fn gives_whole_blocks_before_a_number_that_is_too_far_out(rt: HostRuntime) -> Done {
+fn gives_whole_blocks_before_a_number_that_is_too_far_out(rt: HostRuntime) -> Verdict {
     for (nulls, head, count) in [
         (0, &b"\x81"[..], 0),
         (1000, b"\x99\x03\xe9", 0),

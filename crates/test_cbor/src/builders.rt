@@ -7,13 +7,13 @@ use serde_cbor::value::{
     SerializeMap, SerializeStructVariant, SerializeTupleVariant, SerializeVec, to_value,
 };
 use std::test::Fail;
-use test_checks::{Done, is_refused};
+use test_checks::{Verdict, is_refused};
 
 /// A number that CBOR doesn't store.
 const GREAT: u128 = 1 << 64;
 
 #[test]
-fn makes_a_tuple_variant(rt: HostRuntime) -> Done {
+fn makes_a_tuple_variant(rt: HostRuntime) -> Verdict {
     let alloc = rt.alloc();
     let mut flag = SerializeTupleVariant::new(alloc, "Flag");
     flag.serialize_field(&"foo")?;
@@ -24,7 +24,7 @@ fn makes_a_tuple_variant(rt: HostRuntime) -> Done {
 }
 
 #[test]
-fn makes_a_struct_variant(rt: HostRuntime) -> Done {
+fn makes_a_struct_variant(rt: HostRuntime) -> Verdict {
     let alloc = rt.alloc();
     let mut point = SerializeStructVariant::new(alloc, "Point");
     point.serialize_field("x", &5i64)?;
@@ -34,7 +34,7 @@ fn makes_a_struct_variant(rt: HostRuntime) -> Done {
 }
 
 #[test]
-fn makes_a_map(rt: HostRuntime) -> Done {
+fn makes_a_map(rt: HostRuntime) -> Verdict {
     let alloc = rt.alloc();
     let mut map = SerializeMap::new(alloc);
     map.serialize_key(&1u8)?;
@@ -43,7 +43,7 @@ fn makes_a_map(rt: HostRuntime) -> Done {
 }
 
 #[test]
-fn holds_the_items_before_a_refused_one(rt: HostRuntime) -> Done {
+fn holds_the_items_before_a_refused_one(rt: HostRuntime) -> Verdict {
     let alloc = rt.alloc();
     let mut list = SerializeVec::new(alloc);
     list.serialize_element(&1u8)?;
@@ -54,7 +54,7 @@ fn holds_the_items_before_a_refused_one(rt: HostRuntime) -> Done {
 }
 
 #[test]
-fn holds_the_key_of_a_refused_value(rt: HostRuntime) -> Done {
+fn holds_the_key_of_a_refused_value(rt: HostRuntime) -> Verdict {
     let alloc = rt.alloc();
     let mut map = SerializeMap::new(alloc);
     let Err(refused) = map.serialize_key(&GREAT) else {
@@ -72,7 +72,7 @@ fn holds_the_key_of_a_refused_value(rt: HostRuntime) -> Done {
 }
 
 #[test]
-fn holds_the_parts_before_a_refused_one(rt: HostRuntime) -> Done {
+fn holds_the_parts_before_a_refused_one(rt: HostRuntime) -> Verdict {
     let alloc = rt.alloc();
     let mut flag = SerializeTupleVariant::new(alloc, "A");
     is_refused(flag.serialize_field(&GREAT), UNSTORED)?;
@@ -81,7 +81,7 @@ fn holds_the_parts_before_a_refused_one(rt: HostRuntime) -> Done {
 }
 
 #[test]
-fn holds_the_fields_before_a_refused_one(rt: HostRuntime) -> Done {
+fn holds_the_fields_before_a_refused_one(rt: HostRuntime) -> Verdict {
     let alloc = rt.alloc();
     let mut point = SerializeStructVariant::new(alloc, "B");
     is_refused(point.serialize_field("x", &GREAT), UNSTORED)?;

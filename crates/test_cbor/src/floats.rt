@@ -6,7 +6,7 @@ use crate::checks::is_written;
 use serde_cbor::Result;
 use serde_cbor::parts::Schema;
 use serde_cbor::ser::{Serialize, Serializer, Write, WrittenBy, to_vec_packed};
-use test_checks::Done;
+use test_checks::Verdict;
 
 /// What a sensor measured.
 #[derive(Drop)]
@@ -51,7 +51,7 @@ impl Serialize for Reading {
 
 // -4.1 and 100000.0 are examples of RFC 7049, Appendix A; 21.5 is 4035800000000000 in 64 bits.
 #[test]
-fn writes_floats_in_fields(rt: HostRuntime) -> Done {
+fn writes_floats_in_fields(rt: HostRuntime) -> Verdict {
     let alloc = rt.alloc();
     let reading = Reading {
         celsius: -4.1,

@@ -6,16 +6,16 @@ use serde_cbor::ser::{ByteCount, Serialize};
 use serde_cbor::{Serializer, Value, encoded_len, from_slice};
 use std::alloc::Global;
 use std::process::Abort;
-use test_checks::{Done, is_refused};
+use test_checks::{Verdict, is_refused};
 
 /// The encoding of the value is so long.
-fn is_long<T: Serialize>(rt: &impl Abort, alloc: Global, value: &T, length: u64) -> Done {
+fn is_long<T: Serialize>(rt: &impl Abort, alloc: Global, value: &T, length: u64) -> Verdict {
     assert!(rt; encoded_len(alloc, value)? == length);
     Ok(())
 }
 
 #[test]
-fn a_value_is_as_long_as_its_encoding(rt: HostRuntime) -> Done {
+fn a_value_is_as_long_as_its_encoding(rt: HostRuntime) -> Verdict {
     let alloc = rt.alloc();
     for (number, length) in [(0i128, 1), (1_000_000, 5), (-18_446_744_073_709_551_616, 9)] {
         is_long(&rt, alloc, &number, length)?;
@@ -27,13 +27,13 @@ fn a_value_is_as_long_as_its_encoding(rt: HostRuntime) -> Done {
 }
 
 #[test]
-fn a_number_that_is_not_stored_has_no_length(rt: HostRuntime) -> Done {
+fn a_number_that_is_not_stored_has_no_length(rt: HostRuntime) -> Verdict {
     is_refused(encoded_len(rt.alloc(), &(1u8, 1u128 << 64)), UNSTORED)
 }
 
 // {"spam": 17, "eggs": 42}, and {0: 17, 1: 42} before true.
 #[test]
-fn a_count_tells_the_length_in_any_form(rt: HostRuntime) -> Done {
+fn a_count_tells_the_length_in_any_form(rt: HostRuntime) -> Verdict {
     let alloc = rt.alloc();
     let small = SmallStruct { spam: 17, eggs: 42 };
     is_long(&rt, alloc, &small, 14)?;

@@ -2,10 +2,10 @@
 
 use crate::checks::{UNSTORED, is_written};
 use serde_cbor::cbor;
-use test_checks::{Done, is_refused};
+use test_checks::{Verdict, is_refused};
 
 #[test]
-fn makes_scalars(rt: HostRuntime) -> Done {
+fn makes_scalars(rt: HostRuntime) -> Verdict {
     let alloc = rt.alloc();
     let text = "IETF";
     is_written(&rt, alloc, &cbor!(in alloc; null)?, b"\xf6")?;
@@ -16,7 +16,7 @@ fn makes_scalars(rt: HostRuntime) -> Done {
 
 // The encodings of RFC 8949, Appendix A.
 #[test]
-fn makes_arrays(rt: HostRuntime) -> Done {
+fn makes_arrays(rt: HostRuntime) -> Verdict {
     let alloc = rt.alloc();
     let three = 3u8;
     let value = cbor!(in alloc; [1, [2, three], [4, 5]])?;
@@ -24,7 +24,7 @@ fn makes_arrays(rt: HostRuntime) -> Done {
 }
 
 #[test]
-fn makes_maps(rt: HostRuntime) -> Done {
+fn makes_maps(rt: HostRuntime) -> Verdict {
     let alloc = rt.alloc();
     let three = 3u8;
     let value = cbor!(in alloc; {"a": 1, "b": [2, three]})?;
@@ -32,14 +32,14 @@ fn makes_maps(rt: HostRuntime) -> Done {
 }
 
 #[test]
-fn makes_a_map_in_an_array(rt: HostRuntime) -> Done {
+fn makes_a_map_in_an_array(rt: HostRuntime) -> Verdict {
     let alloc = rt.alloc();
     let value = cbor!(in alloc; ["a", {"b": "c"}])?;
     is_written(&rt, alloc, &value, b"\x82\x61a\xa1\x61b\x61c")
 }
 
 #[test]
-fn makes_keys_of_any_kind(rt: HostRuntime) -> Done {
+fn makes_keys_of_any_kind(rt: HostRuntime) -> Verdict {
     let alloc = rt.alloc();
     let key = (1u8, 2u8);
     let value = cbor!(in alloc; {-1: null, 1: {}, (key): [], 1: 2, })?;
@@ -47,7 +47,7 @@ fn makes_keys_of_any_kind(rt: HostRuntime) -> Done {
 }
 
 #[test]
-fn refuses_what_cannot_be_stored(rt: HostRuntime) -> Done {
+fn refuses_what_cannot_be_stored(rt: HostRuntime) -> Verdict {
     let alloc = rt.alloc();
     let great = 1u128 << 64;
     let refused = cbor!(in alloc; [1, {"a": great}]);

@@ -10,7 +10,7 @@ use std::alloc::{AllocError, Global};
 #[cfg(test)]
 use std::process::Abort;
 #[cfg(test)]
-use test_checks::Done;
+use test_checks::Verdict;
 
 /// The text under a key, where the bytes encode a map that has a text there; else `None`.
 pub fn text_under(alloc: Global, bytes: &[u8], key: &str) -> serde_cbor::Result<Option<String>>
@@ -54,7 +54,13 @@ fn text_of(value: &Value) -> Result<Option<String>, AllocError>
 
 /// This text is under the key, or none.
 #[cfg(test)]
-fn has_under(rt: &impl Abort, alloc: Global, bytes: &[u8], key: &str, text: Option<&str>) -> Done {
+fn has_under(
+    rt: &impl Abort,
+    alloc: Global,
+    bytes: &[u8],
+    key: &str,
+    text: Option<&str>,
+) -> Verdict {
     let found = text_under(alloc, bytes, key)?;
     assert!(rt; found.as_ref().map(String::as_str) == text);
     Ok(())
@@ -62,7 +68,7 @@ fn has_under(rt: &impl Abort, alloc: Global, bytes: &[u8], key: &str, text: Opti
 
 // {"b": "x", "a": 1}, and what is no map.
 #[test]
-fn finds_the_text_under_a_key(rt: HostRuntime) -> Done {
+fn finds_the_text_under_a_key(rt: HostRuntime) -> Verdict {
     let map = b"\xa2\x61b\x61x\x61a\x01".as_slice();
     for (bytes, key, text) in [
         (map, "b", Some("x")),

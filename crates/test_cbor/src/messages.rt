@@ -8,7 +8,7 @@ use serde_cbor::{Deserializer, Value};
 use std::alloc::Global;
 use std::process::Abort;
 use std::test::Fail;
-use test_checks::{Done, is_refused};
+use test_checks::{Verdict, is_refused};
 
 type Stream<'a> = StreamDeserializer<'a, SliceRead<'a>, Value>;
 
@@ -26,7 +26,7 @@ fn gives(
     stream: &mut Stream<'_>,
     end: usize,
     message: Option<u8>,
-) -> Done {
+) -> Verdict {
     let answer = from_value::<u8>(alloc, next_item(rt, stream, end)?);
     match message {
         Some(number) => {
@@ -38,7 +38,7 @@ fn gives(
 }
 
 /// The stream ends with this refusal.
-fn ends(rt: &impl Abort, stream: &mut Stream<'_>, words: &str) -> Done {
+fn ends(rt: &impl Abort, stream: &mut Stream<'_>, words: &str) -> Verdict {
     is_refused(stream.next().ok_or("none")?, words)?;
     assert!(rt; stream.next().is_none());
     Ok(())
@@ -46,7 +46,7 @@ fn ends(rt: &impl Abort, stream: &mut Stream<'_>, words: &str) -> Done {
 
 // 1, then ["a"] and "b", then 42, and a break that no item begins with; and where each ends.
 #[test]
-fn goes_on_after_another_type(rt: HostRuntime) -> Done {
+fn goes_on_after_another_type(rt: HostRuntime) -> Verdict {
     let bytes = b"\x01\x81\x61a\x61b\x18\x2a\xff";
     let mut stream = Deserializer::from_slice(rt.alloc(), bytes).into_iter();
     for (end, message) in [(1, Some(1)), (4, None), (6, None), (8, Some(42))] {

@@ -3,10 +3,10 @@
 use crate::checks::{is_unread, is_written};
 use serde_cbor::from_slice;
 use std::collections::BTreeSet;
-use test_checks::Done;
+use test_checks::Verdict;
 
 #[test]
-fn a_set_has_each_item_once(rt: HostRuntime) -> Done {
+fn a_set_has_each_item_once(rt: HostRuntime) -> Verdict {
     let alloc = rt.alloc();
     let set: BTreeSet<u8> = from_slice(alloc, b"\x83\x03\x01\x18\x03")?;
     assert!(&rt; set.len() == 2);
@@ -14,7 +14,7 @@ fn a_set_has_each_item_once(rt: HostRuntime) -> Done {
 }
 
 #[test]
-fn a_set_ends_at_a_break(rt: HostRuntime) -> Done {
+fn a_set_ends_at_a_break(rt: HostRuntime) -> Verdict {
     let alloc = rt.alloc();
     let set: BTreeSet<String> = from_slice(alloc, b"\x9f\x61b\x61a\xff")?;
     is_written(&rt, alloc, &set, b"\x82\x61a\x61b")
@@ -27,7 +27,7 @@ const NO_SETS: &[(&[u8], &str)] = &[
 ];
 
 #[test]
-fn what_is_no_set_is_refused(rt: HostRuntime) -> Done {
+fn what_is_no_set_is_refused(rt: HostRuntime) -> Verdict {
     for (bytes, words) in NO_SETS {
         is_unread::<BTreeSet<u8>>(rt.alloc(), bytes, words)?;
     }

@@ -11,7 +11,7 @@ use std::io;
 use std::io::ErrorKind;
 use std::process::Abort;
 use std::test::Fail;
-use test_checks::{Done, is_refused};
+use test_checks::{Verdict, is_refused};
 
 /// A writer that takes so many bytes a call, and fails at the call after so many.
 #[derive(Drop)]
@@ -80,7 +80,7 @@ fn write_credentials<W: Write>(alloc: Global, sink: &mut W) -> serde_cbor::Resul
 
 // Into slices that are too short: the bytes written are a prefix of the whole.
 #[test]
-fn leaves_a_beginning_of_a_struct(rt: HostRuntime) -> Done {
+fn leaves_a_beginning_of_a_struct(rt: HostRuntime) -> Verdict {
     for len in 0..30usize {
         let count = fills_slice(&rt, rt.alloc(), len)?;
         if len == 8 {
@@ -113,7 +113,7 @@ fn fills_slice(rt: &impl Abort, alloc: Global, len: usize) -> Result<usize, Fail
 
 // By a head or what a string holds a call.
 #[test]
-fn reports_a_writers_fault_at_each_piece(rt: HostRuntime) -> Done {
+fn reports_a_writers_fault_at_each_piece(rt: HostRuntime) -> Verdict {
     let written = [0, 1, 2, 9, 11, 12, 25, 26, 27, 28, 29];
     for (left, count) in written.into_iter().enumerate() {
         fails_after(&rt, rt.alloc(), 30, left, count)?;
@@ -123,7 +123,7 @@ fn reports_a_writers_fault_at_each_piece(rt: HostRuntime) -> Done {
 
 // By a byte a call.
 #[test]
-fn reports_a_writers_fault_at_each_byte(rt: HostRuntime) -> Done {
+fn reports_a_writers_fault_at_each_byte(rt: HostRuntime) -> Verdict {
     for left in 0..30usize {
         fails_after(&rt, rt.alloc(), 1, left, left)?;
     }
@@ -131,13 +131,19 @@ fn reports_a_writers_fault_at_each_byte(rt: HostRuntime) -> Done {
 }
 
 #[test]
-fn reports_a_writer_that_takes_nothing(rt: HostRuntime) -> Done {
+fn reports_a_writer_that_takes_nothing(rt: HostRuntime) -> Verdict {
     fails_after(&rt, rt.alloc(), 0, 100, 0)
 }
 
 /// A writer that takes so many bytes a call, and fails at the call after so many, has taken these
 /// of the struct's.
-fn fails_after(rt: &impl Abort, alloc: Global, at_once: usize, left: usize, count: usize) -> Done {
+fn fails_after(
+    rt: &impl Abort,
+    alloc: Global,
+    at_once: usize,
+    left: usize,
+    count: usize,
+) -> Verdict {
     let mut writer = FailingWriter::new(alloc, at_once, left)?;
     is_refused(
         write_credentials(alloc, &mut IoWrite::new(&mut writer)),
@@ -149,7 +155,7 @@ fn fails_after(rt: &impl Abort, alloc: Global, at_once: usize, left: usize, coun
 }
 
 #[test]
-fn goes_on_by_a_byte_a_call(rt: HostRuntime) -> Done {
+fn goes_on_by_a_byte_a_call(rt: HostRuntime) -> Verdict {
     let alloc = rt.alloc();
     let mut writer = FailingWriter::new(alloc, 1, 30)?;
     write_credentials(alloc, &mut IoWrite::new(&mut writer))?;
@@ -160,7 +166,7 @@ fn goes_on_by_a_byte_a_call(rt: HostRuntime) -> Done {
 const FERRIS: &[u8] = b"\xa3\x64name\x66Ferris\x67species\x64crab\x6dyear_of_birth\x19\x07\xdf";
 
 /// Writes the struct whose bytes these are to a sink.
-fn write_ferris<W: Write>(alloc: Global, sink: &mut W) -> Done {
+fn write_ferris<W: Write>(alloc: Global, sink: &mut W) -> Verdict {
     let ferris = Mascot {
         name: "Ferris".to_owned(alloc)?,
         species: "crab".to_owned(alloc)?,
@@ -176,7 +182,7 @@ fn write_year<W: Write>(alloc: Global, sink: &mut W) -> serde_cbor::Result<()> {
 }
 
 #[test]
-fn appends_a_struct_to_a_vector(rt: HostRuntime) -> Done {
+fn appends_a_struct_to_a_vector(rt: HostRuntime) -> Verdict {
     let mut bytes = vec![in rt.alloc(); 0xf6]?;
     write_ferris(rt.alloc(), &mut bytes)?;
     assert!(rt; bytes.first() == Some(&0xf6));
@@ -185,7 +191,7 @@ fn appends_a_struct_to_a_vector(rt: HostRuntime) -> Done {
 }
 
 #[test]
-fn writes_a_struct_to_a_slice(rt: HostRuntime) -> Done {
+fn writes_a_struct_to_a_slice(rt: HostRuntime) -> Verdict {
     let mut room = [0; 64];
     let mut sink = SliceWrite::new(&mut room);
     write_ferris(rt.alloc(), &mut sink)?;
@@ -195,7 +201,7 @@ fn writes_a_struct_to_a_slice(rt: HostRuntime) -> Done {
 }
 
 #[test]
-fn writes_a_struct_to_a_writer(rt: HostRuntime) -> Done {
+fn writes_a_struct_to_a_writer(rt: HostRuntime) -> Verdict {
     let alloc = rt.alloc();
     let mut file = FailingWriter::new(alloc, 64, 100)?;
     {
@@ -215,7 +221,7 @@ fn is_ferris_and_2015(rt: &impl Abort, bytes: &[u8]) {
 }
 
 #[test]
-fn counts_the_bytes_of_a_struct(rt: HostRuntime) -> Done {
+fn counts_the_bytes_of_a_struct(rt: HostRuntime) -> Verdict {
     let alloc = rt.alloc();
     let mut counter = Counter { count: 0 };
     write_ferris(alloc, &mut counter)?;
@@ -269,7 +275,7 @@ fn is_written_in_each_form<T: Serialize>(
     alloc: Global,
     value: &T,
     (named, packed): (&[u8], &[u8]),
-) -> Done {
+) -> Verdict {
     for (mut ser, bytes) in [
         (legacy(alloc), named),
         (legacy(alloc).packed_format(), packed),
@@ -282,7 +288,7 @@ fn is_written_in_each_form<T: Serialize>(
 
 // The settings reach what lists, maps, options and arrays hold.
 #[test]
-fn writes_enums_within_std_types_in_each_form(rt: HostRuntime) -> Done {
+fn writes_enums_within_std_types_in_each_form(rt: HostRuntime) -> Verdict {
     let alloc = rt.alloc();
     let list = vec![in alloc; Color::Other(42), Color::Alpha(1, 9)]?;
     let mut map: BTreeMap<u8, Option<EachKind>> = BTreeMap::new(alloc);

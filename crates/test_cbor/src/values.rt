@@ -7,10 +7,10 @@ use serde_cbor::tags::Tagged;
 use serde_cbor::value::{Map, ToValue, from_value, to_value};
 use std::alloc::{AllocError, Global};
 use std::test::Fail;
-use test_checks::{Done, is_refused};
+use test_checks::{Verdict, is_refused};
 
 #[test]
-fn keeps_a_tag(rt: HostRuntime) -> Done {
+fn keeps_a_tag(rt: HostRuntime) -> Verdict {
     let alloc = rt.alloc();
     let tagged = to_value(alloc, &Tagged::new(Some(1), 5u8))?;
     is_written(&rt, alloc, &tagged, b"\xc1\x05")?;
@@ -23,7 +23,7 @@ fn keeps_a_tag(rt: HostRuntime) -> Done {
 }
 
 #[test]
-fn makes_a_value_within_a_tag(rt: HostRuntime) -> Done {
+fn makes_a_value_within_a_tag(rt: HostRuntime) -> Verdict {
     for (tag, bytes) in [(Some(24), b"\xd8\x18\x05".as_slice()), (None, b"\x05")] {
         is_written(&rt, rt.alloc(), &Tagged::new(tag, 5u8), bytes)?;
     }
@@ -36,7 +36,7 @@ fn float_of(alloc: Global, number: i128) -> serde_cbor::Result<f64> {
 }
 
 #[test]
-fn reads_an_integer_as_a_float(rt: HostRuntime) -> Done {
+fn reads_an_integer_as_a_float(rt: HostRuntime) -> Verdict {
     let alloc = rt.alloc();
     assert!(rt; float_of(alloc, -52)? == -52.0);
     let too_long = float_of(alloc, (1 << 53) + 1);
@@ -44,7 +44,7 @@ fn reads_an_integer_as_a_float(rt: HostRuntime) -> Done {
 }
 
 #[test]
-fn reads_again_what_it_wrote(rt: HostRuntime) -> Done {
+fn reads_again_what_it_wrote(rt: HostRuntime) -> Verdict {
     let alloc = rt.alloc();
     let again: (u32, Option<bool>) = write_and_read(alloc, &(500u32, Some(true)))?;
     assert!(rt; again == (500, Some(true)));
@@ -52,7 +52,7 @@ fn reads_again_what_it_wrote(rt: HostRuntime) -> Done {
 }
 
 #[test]
-fn reads_again_eight_parts(rt: HostRuntime) -> Done {
+fn reads_again_eight_parts(rt: HostRuntime) -> Verdict {
     let alloc = rt.alloc();
     let parts = (1u8, true, 300u16, 'a', -5i8, (), 70_000u32, Some(2u8));
     let again: (u8, bool, u16, char, i8, (), u32, Option<u8>) = write_and_read(alloc, &parts)?;
@@ -64,7 +64,7 @@ fn reads_again_eight_parts(rt: HostRuntime) -> Done {
 
 // 2^64 as each type that holds it.
 #[test]
-fn refuses_a_number_that_is_not_stored(rt: HostRuntime) -> Done {
+fn refuses_a_number_that_is_not_stored(rt: HostRuntime) -> Verdict {
     let alloc = rt.alloc();
     is_refused(to_value(alloc, &(1u128 << 64)), UNSTORED)?;
     is_refused(to_value(alloc, &(1i128 << 64)), UNSTORED)?;
@@ -84,7 +84,7 @@ fn nested(alloc: Global, levels: u16) -> Result<Value, AllocError> {
 }
 
 #[test]
-fn reads_127_levels_of_a_value(rt: HostRuntime) -> Done {
+fn reads_127_levels_of_a_value(rt: HostRuntime) -> Verdict {
     let alloc = rt.alloc();
     let value: Value = from_value(alloc, nested(alloc, 127)?)?;
     assert!(rt; value == nested(alloc, 127)?);
@@ -93,7 +93,7 @@ fn reads_127_levels_of_a_value(rt: HostRuntime) -> Done {
 }
 
 #[test]
-fn makes_a_value_at_any_depth(rt: HostRuntime) -> Done {
+fn makes_a_value_at_any_depth(rt: HostRuntime) -> Verdict {
     let alloc = rt.alloc();
     let value = nested(alloc, 300)?;
     assert!(rt; to_value(alloc, &value)? == value);
@@ -110,7 +110,7 @@ fn array(alloc: Global, items: &[i128]) -> Result<Value, AllocError> {
 
 // A map of arrays to null, put in out of order.
 #[test]
-fn orders_keys_that_are_arrays(rt: HostRuntime) -> Done {
+fn orders_keys_that_are_arrays(rt: HostRuntime) -> Verdict {
     let alloc = rt.alloc();
     let mut pairs = Vec::new(alloc);
     for items in [&[0, -1][..], &[0, 0], &[-2], &[-1], &[100], &[0]] {

@@ -7,10 +7,10 @@ use std::fmt::InlineText;
 use std::test::Fail;
 
 /// A test's end, or why it stopped.
-pub type Done = Result<(), Fail>;
+pub type Verdict = Result<(), Fail>;
 
 /// The call was refused, with these words, for which no memory is taken.
-pub fn is_refused<T: Drop>(answer: Answer<T>, words: &str) -> Done {
+pub fn is_refused<T: Drop>(answer: Answer<T>, words: &str) -> Verdict {
     let Err(e) = answer else {
         return Err(Fail::from("not refused"));
     };

@@ -8,7 +8,7 @@
 //! Simple values but false, true, null and undefined are refused, and left out here.
 
 use crate::checks::is_shown;
-use test_checks::Done;
+use test_checks::Verdict;
 
 /// Integers.
 const INTEGERS: [(&str, &str); 18] = [
@@ -123,7 +123,7 @@ const ARRAYS_AND_MAPS: [(&str, &str); 20] = [
 ];
 
 #[test]
-fn shows_integers(rt: HostRuntime) -> Done {
+fn shows_integers(rt: HostRuntime) -> Verdict {
     for (encoding, notation) in &INTEGERS {
         is_shown(&rt, rt.alloc(), encoding, notation)?;
     }
@@ -131,7 +131,7 @@ fn shows_integers(rt: HostRuntime) -> Done {
 }
 
 #[test]
-fn shows_floats(rt: HostRuntime) -> Done {
+fn shows_floats(rt: HostRuntime) -> Verdict {
     for (encoding, notation) in &FLOATS {
         is_shown(&rt, rt.alloc(), encoding, notation)?;
     }
@@ -139,7 +139,7 @@ fn shows_floats(rt: HostRuntime) -> Done {
 }
 
 #[test]
-fn shows_simple_values_tags_and_strings(rt: HostRuntime) -> Done {
+fn shows_simple_values_tags_and_strings(rt: HostRuntime) -> Verdict {
     for (encoding, notation) in &OTHERS {
         is_shown(&rt, rt.alloc(), encoding, notation)?;
     }
@@ -147,7 +147,7 @@ fn shows_simple_values_tags_and_strings(rt: HostRuntime) -> Done {
 }
 
 #[test]
-fn shows_arrays_and_maps(rt: HostRuntime) -> Done {
+fn shows_arrays_and_maps(rt: HostRuntime) -> Verdict {
     for (encoding, notation) in &ARRAYS_AND_MAPS {
         is_shown(&rt, rt.alloc(), encoding, notation)?;
     }

@@ -8,7 +8,7 @@ use hex::FromHexError;
 use std::alloc::{AllocError, Global};
 use std::process::Abort;
 use std::test::Fail;
-use test_checks::Done;
+use test_checks::Verdict;
 
 /// The value that the hexadecimal encodes.
 fn value_of(alloc: Global, encoding: &str) -> Result<Value, Fail> {
@@ -20,7 +20,7 @@ fn value_of(alloc: Global, encoding: &str) -> Result<Value, Fail> {
 }
 
 /// The item is shown so, on one line.
-pub fn is_shown(rt: &impl Abort, alloc: Global, encoding: &str, want: &str) -> Done {
+pub fn is_shown(rt: &impl Abort, alloc: Global, encoding: &str, want: &str) -> Verdict {
     let value = value_of(alloc, encoding)?;
     assert_eq!(rt; to_diagnostic(alloc, &value)?.as_str(), want);
     assert_eq!(rt; format!(in alloc; "{}", Diagnostic(&value))?.as_str(), want);
@@ -28,7 +28,7 @@ pub fn is_shown(rt: &impl Abort, alloc: Global, encoding: &str, want: &str) -> D
 }
 
 /// The item is shown so, over lines.
-pub fn is_shown_pretty(rt: &impl Abort, alloc: Global, encoding: &str, want: &str) -> Done {
+pub fn is_shown_pretty(rt: &impl Abort, alloc: Global, encoding: &str, want: &str) -> Verdict {
     let value = value_of(alloc, encoding)?;
     assert_eq!(rt; to_diagnostic_pretty(alloc, &value)?.as_str(), want);
     assert_eq!(rt;

@@ -1,10 +1,10 @@
 //! Escapes, layouts, and what takes no memory.
 
 use crate::checks::{is_shown, is_shown_pretty};
-use test_checks::Done;
+use test_checks::Verdict;
 
 #[test]
-fn escapes_as_json_does(rt: HostRuntime) -> Done {
+fn escapes_as_json_does(rt: HostRuntime) -> Verdict {
     let alloc = rt.alloc();
     is_shown(&rt, alloc, "67225c080a0c0d09", r#""\"\\\b\n\f\r\t""#)?;
     is_shown(&rt, alloc, "6500011b1f20", r#""\u0000\u0001\u001b\u001f ""#)?;
@@ -14,7 +14,7 @@ fn escapes_as_json_does(rt: HostRuntime) -> Done {
 }
 
 #[test]
-fn shows_lines(rt: HostRuntime) -> Done {
+fn shows_lines(rt: HostRuntime) -> Verdict {
     let alloc = rt.alloc();
     is_shown_pretty(&rt, alloc, "80", "[]")?;
     is_shown_pretty(&rt, alloc, "a0", "{}")?;

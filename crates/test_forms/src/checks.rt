@@ -5,10 +5,10 @@ use cbor_forms::to_vec_deterministic;
 use cbor_ser::Serialize;
 use std::alloc::Global;
 use std::process::Abort;
-use test_checks::Done;
+use test_checks::Verdict;
 
 /// The value has this core deterministic encoding.
-pub fn encodes<T: Serialize>(rt: &impl Abort, alloc: Global, value: &T, want: &[u8]) -> Done {
+pub fn encodes<T: Serialize>(rt: &impl Abort, alloc: Global, value: &T, want: &[u8]) -> Verdict {
     assert!(rt; to_vec_deterministic(alloc, value)?.as_slice() == want);
     Ok(())
 }

@@ -5,14 +5,14 @@ use cbor_ser::Serialize;
 use cbor_value::{Float, Map, Value};
 use std::alloc::Global;
 use std::process::Abort;
-use test_checks::{Done, is_refused};
+use test_checks::{Verdict, is_refused};
 
 const EQUAL_KEYS: &str = "Two keys of a map are equal as dCBOR's numbers";
 
 const TOO_LOW: &str = "An integer is below -2^63";
 
 /// The value has this dCBOR encoding.
-fn encodes<T: Serialize>(rt: &impl Abort, alloc: Global, value: &T, want: &[u8]) -> Done {
+fn encodes<T: Serialize>(rt: &impl Abort, alloc: Global, value: &T, want: &[u8]) -> Verdict {
     assert!(rt; to_vec_dcbor(alloc, value)?.as_slice() == want);
     Ok(())
 }
@@ -21,7 +21,7 @@ fn encodes<T: Serialize>(rt: &impl Abort, alloc: Global, value: &T, want: &[u8])
 // these integers, or the head of section 3 that it gives no example of (19 ff e0, 1a 00 01 86 a0),
 // and the others those that it gives for them.
 #[test]
-fn writes_the_floats_of_appendix_a(rt: HostRuntime) -> Done {
+fn writes_the_floats_of_appendix_a(rt: HostRuntime) -> Verdict {
     let rows: [(f64, &[u8]); 16] = [
         (0.0, b"\0".as_slice()),
         (-0.0, b"\0".as_slice()),
@@ -48,7 +48,7 @@ fn writes_the_floats_of_appendix_a(rt: HostRuntime) -> Done {
 
 // The integers of RFC 8949, Appendix A, as floats have its encodings of these integers.
 #[test]
-fn writes_floats_as_the_integers_of_appendix_a(rt: HostRuntime) -> Done {
+fn writes_floats_as_the_integers_of_appendix_a(rt: HostRuntime) -> Verdict {
     let rows: [(f64, &[u8]); 12] = [
         (10.0, b"\x0a".as_slice()),
         (23.0, b"\x17".as_slice()),
@@ -71,7 +71,7 @@ fn writes_floats_as_the_integers_of_appendix_a(rt: HostRuntime) -> Done {
 
 // The ends of the range that the draft gives: -2^63 and 2^64 - 1. Doubles are 2^11 apart there.
 #[test]
-fn writes_integers_up_to_the_ends(rt: HostRuntime) -> Done {
+fn writes_integers_up_to_the_ends(rt: HostRuntime) -> Verdict {
     let rows: [(f64, &[u8]); 5] = [
         (
             18446744073709549568.0,
@@ -99,7 +99,7 @@ fn writes_integers_up_to_the_ends(rt: HostRuntime) -> Done {
 
 // Integers at each edge of a width of a head (RFC 8949, section 3).
 #[test]
-fn writes_integers_at_each_edge_of_a_width(rt: HostRuntime) -> Done {
+fn writes_integers_at_each_edge_of_a_width(rt: HostRuntime) -> Verdict {
     let rows: [(i128, &[u8]); 22] = [
         (0, b"\0".as_slice()),
         (1, b"\x01".as_slice()),
@@ -139,7 +139,7 @@ fn writes_integers_at_each_edge_of_a_width(rt: HostRuntime) -> Done {
 // Integers as floats; one below -2^63; numbers of as many binary digits as a half (11) or a single
 // (24) has, and of one more; each width's least number and least normal one.
 #[test]
-fn writes_floats_at_each_edge_of_a_width(rt: HostRuntime) -> Done {
+fn writes_floats_at_each_edge_of_a_width(rt: HostRuntime) -> Verdict {
     let rows: [(f64, &[u8]); 17] = [
         (42.0, b"\x18\x2a".as_slice()),
         (2345678.0, b"\x1a\0\x23\xca\xce".as_slice()),
@@ -176,7 +176,7 @@ fn writes_floats_at_each_edge_of_a_width(rt: HostRuntime) -> Done {
 
 // Digits past the point, in each of the widths.
 #[test]
-fn finds_integers_in_each_width(rt: HostRuntime) -> Done {
+fn finds_integers_in_each_width(rt: HostRuntime) -> Verdict {
     let rows = [
         (Float::Half(0x3c00), Some(1)),
         (Float::Half(0x3bff), None),
@@ -198,7 +198,7 @@ fn finds_integers_in_each_width(rt: HostRuntime) -> Done {
 
 // 1 and 1.0 are one key, and so are 0.0 and -0.0; 1 and 1.5 are two.
 #[test]
-fn refuses_keys_that_become_equal(rt: HostRuntime) -> Done {
+fn refuses_keys_that_become_equal(rt: HostRuntime) -> Verdict {
     let alloc = rt.alloc();
     let pairs = vec![in alloc;
         (Value::Integer(1), Value::Null),
@@ -223,7 +223,7 @@ fn refuses_keys_that_become_equal(rt: HostRuntime) -> Done {
 }
 
 #[test]
-fn refuses_integers_below_its_range(rt: HostRuntime) -> Done {
+fn refuses_integers_below_its_range(rt: HostRuntime) -> Verdict {
     let alloc = rt.alloc();
     let low = i64::MIN as i128 - 1;
     is_refused(to_vec_dcbor(alloc, &low), TOO_LOW)?;

@@ -2,11 +2,11 @@
 
 use crate::checks::encodes;
 use cbor_value::Float;
-use test_checks::Done;
+use test_checks::Verdict;
 
 // The floats of RFC 8949, Appendix A, each of which is given there at its shortest.
 #[test]
-fn writes_the_floats_of_appendix_a(rt: HostRuntime) -> Done {
+fn writes_the_floats_of_appendix_a(rt: HostRuntime) -> Verdict {
     let rows: [(f64, &[u8]); 16] = [
         (0.0, b"\xf9\0\0".as_slice()),
         (-0.0, b"\xf9\x80\0".as_slice()),
@@ -33,7 +33,7 @@ fn writes_the_floats_of_appendix_a(rt: HostRuntime) -> Done {
 
 // Appendix A has infinity and a NaN in all three widths.
 #[test]
-fn writes_each_width_alike(rt: HostRuntime) -> Done {
+fn writes_each_width_alike(rt: HostRuntime) -> Verdict {
     let rows = [
         (Float::Single(0x7f80_0000), Float::Half(0x7c00)),
         (Float::Double(0x7ff0_0000_0000_0000), Float::Half(0x7c00)),
@@ -64,7 +64,7 @@ fn writes_each_width_alike(rt: HostRuntime) -> Done {
 
 // 1.5, 100000.0, 1.1 and the NaN of Appendix A, and 0.1, which needs all 64 bits.
 #[test]
-fn is_the_shortest_of_a_number(rt: HostRuntime) -> Done {
+fn is_the_shortest_of_a_number(rt: HostRuntime) -> Verdict {
     let rows = [
         (1.5, Float::Half(0x3e00)),
         (100000.0, Float::Single(0x47c3_5000)),

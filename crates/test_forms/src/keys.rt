@@ -4,7 +4,7 @@ use crate::checks::encodes;
 use cbor_forms::{shortened, to_vec_deterministic, to_vec_length_first};
 use cbor_value::{Float, Map, Value};
 use std::alloc::Global;
-use test_checks::{Done, is_refused};
+use test_checks::{Verdict, is_refused};
 
 const EQUAL_KEYS: &str = "Two keys of a map are equal with floats at their shortest";
 
@@ -31,7 +31,7 @@ fn example(alloc: Global) -> cbor_io::error::Result<Value> {
 
 // The order that section 4.2.1 lists.
 #[test]
-fn writes_keys_in_the_order_of_their_bytes(rt: HostRuntime) -> Done {
+fn writes_keys_in_the_order_of_their_bytes(rt: HostRuntime) -> Verdict {
     let want =
         b"\xa8\x0a\xf6\x18\x64\xf6\x20\xf6\x61z\xf6\x62aa\xf6\x81\x18\x64\xf6\x81\x20\xf6\xf4\xf6";
     encodes(&rt, rt.alloc(), &example(rt.alloc())?, want.as_slice())
@@ -39,7 +39,7 @@ fn writes_keys_in_the_order_of_their_bytes(rt: HostRuntime) -> Done {
 
 // 1.5 of 32 bits stands after 2.0 of 16 bits, and 1.5 of 16 bits before it.
 #[test]
-fn puts_pairs_in_order_anew(rt: HostRuntime) -> Done {
+fn puts_pairs_in_order_anew(rt: HostRuntime) -> Verdict {
     let alloc = rt.alloc();
     let pairs = vec![in alloc;
         (Value::Float(Float::Half(0x4000)), Value::Integer(2)),
@@ -51,7 +51,7 @@ fn puts_pairs_in_order_anew(rt: HostRuntime) -> Done {
 }
 
 #[test]
-fn refuses_keys_that_become_equal(rt: HostRuntime) -> Done {
+fn refuses_keys_that_become_equal(rt: HostRuntime) -> Verdict {
     let alloc = rt.alloc();
     let pairs = vec![in alloc;
         (Value::Float(Float::Half(0x3c00)), Value::Integer(1)),
@@ -65,14 +65,14 @@ fn refuses_keys_that_become_equal(rt: HostRuntime) -> Done {
 }
 
 #[test]
-fn refuses_numbers_that_are_too_far_out(rt: HostRuntime) -> Done {
+fn refuses_numbers_that_are_too_far_out(rt: HostRuntime) -> Verdict {
     let answer = to_vec_deterministic(rt.alloc(), &Value::Integer(1 << 64));
     is_refused(answer, "The number can't be stored in CBOR")
 }
 
 // The order that section 4.2.3 lists.
 #[test]
-fn writes_shorter_keys_first(rt: HostRuntime) -> Done {
+fn writes_shorter_keys_first(rt: HostRuntime) -> Verdict {
     let alloc = rt.alloc();
     let want =
         b"\xa8\x0a\xf6\x20\xf6\xf4\xf6\x18\x64\xf6\x61z\xf6\x81\x20\xf6\x62aa\xf6\x81\x18\x64\xf6";

@@ -11,7 +11,7 @@ use cbor_length::encoded_len;
 use cbor_ser::{Serialize, Serializer, Write};
 use std::alloc::Global;
 use std::cell::Cell;
-use test_checks::Done;
+use test_checks::Verdict;
 
 /// A number that counts how often it was written.
 #[derive(Drop)]
@@ -30,7 +30,7 @@ impl Serialize for Counted {
 }
 
 /// Gives the number to each call.
-fn give_to_each(alloc: Global, counted: &Counted) -> Done {
+fn give_to_each(alloc: Global, counted: &Counted) -> Verdict {
     to_value(alloc, counted)?;
     to_vec_canonical(alloc, counted)?;
     to_vec_deterministic(alloc, counted)?;
@@ -41,7 +41,7 @@ fn give_to_each(alloc: Global, counted: &Counted) -> Done {
 }
 
 /// Gives the number to each call of the builders.
-fn build_of_each(alloc: Global, counted: &Counted) -> Done {
+fn build_of_each(alloc: Global, counted: &Counted) -> Verdict {
     let mut list = SerializeVec::new(alloc);
     list.serialize_element(counted)?;
     list.serialize_field(counted)?;
@@ -63,7 +63,7 @@ fn unwritten() -> Counted {
 }
 
 #[test]
-fn writes_a_value_once(rt: HostRuntime) -> Done {
+fn writes_a_value_once(rt: HostRuntime) -> Verdict {
     let counted = unwritten();
     give_to_each(rt.alloc(), &counted)?;
     assert!(rt; counted.times.get() == 6);
@@ -71,7 +71,7 @@ fn writes_a_value_once(rt: HostRuntime) -> Done {
 }
 
 #[test]
-fn builds_of_a_value_once(rt: HostRuntime) -> Done {
+fn builds_of_a_value_once(rt: HostRuntime) -> Verdict {
     let counted = unwritten();
     build_of_each(rt.alloc(), &counted)?;
     assert!(rt; counted.times.get() == 7);

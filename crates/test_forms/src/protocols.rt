@@ -6,7 +6,7 @@ use cbor_io::error::Result;
 use cbor_value::{Map, Value};
 use std::alloc::Global;
 use std::process::Abort;
-use test_checks::Done;
+use test_checks::Verdict;
 
 // The key of a credential in a header of test data for CTAP2 (`wiredata_fido2.h`,
 // `WIREDATA_CTAP_CBOR_CRED`).
@@ -38,7 +38,7 @@ const INFO: &[u8] = b"\
 const AAGUID: &[u8] = b"\xf8\xa0\x11\xf3\x8c\x0a\x4d\x15\x80\x06\x17\x11\x1f\x9e\xdc\x7d";
 
 /// The value is written so, with shorter keys first.
-fn encodes(rt: &impl Abort, alloc: Global, value: &Value, want: &[u8]) -> Done {
+fn encodes(rt: &impl Abort, alloc: Global, value: &Value, want: &[u8]) -> Verdict {
     assert!(rt; to_vec_length_first(alloc, value)?.as_slice() == want);
     Ok(())
 }
@@ -100,11 +100,11 @@ fn info(alloc: Global) -> Result<Value> {
 }
 
 #[test]
-fn writes_the_key_of_a_credential(rt: HostRuntime) -> Done {
+fn writes_the_key_of_a_credential(rt: HostRuntime) -> Verdict {
     encodes(&rt, rt.alloc(), &key(rt.alloc())?, CREDENTIAL_KEY)
 }
 
 #[test]
-fn writes_the_answer_of_an_authenticator(rt: HostRuntime) -> Done {
+fn writes_the_answer_of_an_authenticator(rt: HostRuntime) -> Verdict {
     encodes(&rt, rt.alloc(), &info(rt.alloc())?, INFO)
 }

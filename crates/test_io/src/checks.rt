@@ -4,7 +4,7 @@
 use cbor_io::write::{SliceWrite, Write};
 use std::fmt::{Display, InlineText};
 use std::process::Abort;
-use test_checks::Done;
+use test_checks::Verdict;
 
 /// It prints these words, for which no memory is taken.
 pub fn prints<D: Display + Drop>(rt: &impl Abort, reported: D, want: &str) {
@@ -14,7 +14,7 @@ pub fn prints<D: Display + Drop>(rt: &impl Abort, reported: D, want: &str) {
 // ---- sinks
 
 /// The piece is written.
-pub fn takes<W: Write>(sink: &mut W, piece: &[u8]) -> Done {
+pub fn takes<W: Write>(sink: &mut W, piece: &[u8]) -> Verdict {
     sink.write_all(piece)?;
     Ok(())
 }

@@ -3,10 +3,10 @@
 use cbor_io::write::{IoWrite, SliceWrite, Write};
 use cbor_read::{IoRead, MutSliceRead, SliceRead, SliceReadFixed, Source, VecRead};
 use std::process::Abort;
-use test_checks::Done;
+use test_checks::Verdict;
 
 #[test]
-fn sources_print_no_bytes(rt: HostRuntime) -> Done {
+fn sources_print_no_bytes(rt: HostRuntime) -> Verdict {
     let alloc = rt.alloc();
     let mut source = SliceRead::new(alloc, b"\x61a\x61b");
     source.next()?;
@@ -38,7 +38,7 @@ fn sources_print_no_bytes(rt: HostRuntime) -> Done {
 }
 
 #[test]
-fn sinks_print_no_bytes(rt: HostRuntime) -> Done {
+fn sinks_print_no_bytes(rt: HostRuntime) -> Verdict {
     let alloc = rt.alloc();
     let mut room = [7; 3];
     let mut sink = SliceWrite::new(&mut room);

@@ -6,13 +6,19 @@ use std::io;
 use std::io::ErrorKind;
 use std::process::Abort;
 use std::test::Fail;
-use test_checks::Done;
+use test_checks::Verdict;
 
 // The checks below promise nothing, so that a test of many rows carries no facts from one to the
 // next.
 
 /// The error, which is one at offset 7, is of this category and prints these words and its offset.
-fn is_reported(rt: &impl Abort, alloc: Global, e: Error, category: Category, words: &str) -> Done {
+fn is_reported(
+    rt: &impl Abort,
+    alloc: Global,
+    e: Error,
+    category: Category,
+    words: &str,
+) -> Verdict {
     is_of(rt, &e, category);
     prints(rt, e.code(), words);
     is_text(rt, e.code().to_string(alloc), words)?;
@@ -21,7 +27,7 @@ fn is_reported(rt: &impl Abort, alloc: Global, e: Error, category: Category, wor
 }
 
 /// The text is this.
-fn is_text(rt: &impl Abort, text: Result<String, AllocError>, want: &str) -> Done {
+fn is_text(rt: &impl Abort, text: Result<String, AllocError>, want: &str) -> Verdict {
     assert!(rt; text?.as_str() == want);
     Ok(())
 }
@@ -49,23 +55,23 @@ fn prints_its_offset(rt: &impl Abort, e: &Error, words: &str) {
 }
 
 /// The code at offset 7 is of an end of input.
-fn reports_eof(rt: &impl Abort, alloc: Global, e: Error, words: &str) -> Done {
+fn reports_eof(rt: &impl Abort, alloc: Global, e: Error, words: &str) -> Verdict {
     is_reported(rt, alloc, e, Category::Eof, words)
 }
 
 /// The code at offset 7 is of bytes that spell no item that is read.
-fn reports_syntax(rt: &impl Abort, alloc: Global, e: Error, words: &str) -> Done {
+fn reports_syntax(rt: &impl Abort, alloc: Global, e: Error, words: &str) -> Verdict {
     is_reported(rt, alloc, e, Category::Syntax, words)
 }
 
 #[test]
-fn reports_too_little_room(rt: HostRuntime) -> Done {
+fn reports_too_little_room(rt: HostRuntime) -> Verdict {
     let e = Error::scratch_too_small(7);
     is_reported(&rt, rt.alloc(), e, Category::Io, "Scratch buffer too small")
 }
 
 #[test]
-fn reports_too_little_input(rt: HostRuntime) -> Done {
+fn reports_too_little_input(rt: HostRuntime) -> Verdict {
     let alloc = rt.alloc();
     let e = Error::at(ErrorCode::EofWhileParsingValue, 7);
     reports_eof(&rt, alloc, e, "EOF while parsing a value")?;
@@ -76,7 +82,7 @@ fn reports_too_little_input(rt: HostRuntime) -> Done {
 }
 
 #[test]
-fn reports_bytes_that_spell_nothing(rt: HostRuntime) -> Done {
+fn reports_bytes_that_spell_nothing(rt: HostRuntime) -> Verdict {
     let alloc = rt.alloc();
     let e = Error::at(ErrorCode::InvalidUtf8, 7);
     reports_syntax(&rt, alloc, e, "invalid UTF-8")?;
@@ -87,7 +93,7 @@ fn reports_bytes_that_spell_nothing(rt: HostRuntime) -> Done {
 }
 
 #[test]
-fn reports_input_that_goes_too_far(rt: HostRuntime) -> Done {
+fn reports_input_that_goes_too_far(rt: HostRuntime) -> Verdict {
     let alloc = rt.alloc();
     let e = Error::at(ErrorCode::LengthOutOfRange, 7);
     reports_syntax(&rt, alloc, e, "length out of range")?;
@@ -98,7 +104,7 @@ fn reports_input_that_goes_too_far(rt: HostRuntime) -> Done {
 }
 
 #[test]
-fn reports_arrays_of_another_length(rt: HostRuntime) -> Done {
+fn reports_arrays_of_another_length(rt: HostRuntime) -> Verdict {
     let alloc = rt.alloc();
     let e = Error::at(ErrorCode::ArrayTooShort, 7);
     reports_syntax(&rt, alloc, e, "array too short")?;
@@ -107,7 +113,7 @@ fn reports_arrays_of_another_length(rt: HostRuntime) -> Done {
 }
 
 #[test]
-fn reports_items_of_another_form(rt: HostRuntime) -> Done {
+fn reports_items_of_another_form(rt: HostRuntime) -> Verdict {
     let alloc = rt.alloc();
     let e = Error::at(ErrorCode::WrongEnumFormat, 7);
     reports_syntax(&rt, alloc, e, "wrong enum format")?;
@@ -118,7 +124,7 @@ fn reports_items_of_another_form(rt: HostRuntime) -> Done {
 }
 
 #[test]
-fn reports_a_message(rt: HostRuntime) -> Done {
+fn reports_a_message(rt: HostRuntime) -> Verdict {
     let alloc = rt.alloc();
     let e = Error::message(alloc, "x");
     if e.is_memory() {
@@ -129,7 +135,7 @@ fn reports_a_message(rt: HostRuntime) -> Done {
 }
 
 #[test]
-fn reports_that_memory_ran_out(rt: HostRuntime) -> Done {
+fn reports_that_memory_ran_out(rt: HostRuntime) -> Verdict {
     let e = Error::from(AllocError);
     assert!(rt; e.is_memory());
     assert!(rt; e.is_io());
@@ -137,7 +143,7 @@ fn reports_that_memory_ran_out(rt: HostRuntime) -> Done {
 }
 
 #[test]
-fn reports_a_fault_of_a_device(rt: HostRuntime) -> Done {
+fn reports_a_fault_of_a_device(rt: HostRuntime) -> Verdict {
     let e = Error::from(io::Error::from(ErrorKind::Interrupted));
     assert!(rt; matches!(e.code(), ErrorCode::Io(_)));
     assert!(rt; e.is_io());
@@ -145,7 +151,7 @@ fn reports_a_fault_of_a_device(rt: HostRuntime) -> Done {
 }
 
 #[test]
-fn reports_no_place_before_the_first_byte(rt: HostRuntime) -> Done {
+fn reports_no_place_before_the_first_byte(rt: HostRuntime) -> Verdict {
     let e = Error::eof(0);
     assert!(rt; e.is_eof());
     is_text(&rt, e.to_string(rt.alloc()), "EOF while parsing a value")

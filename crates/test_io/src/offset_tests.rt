@@ -2,11 +2,11 @@
 
 use crate::script::plays;
 use cbor_read::IoRead;
-use test_checks::Done;
+use test_checks::Verdict;
 
 // Offsets are below 2^64: a byte at the last of them can't be counted, and an end there is an end.
 #[test]
-fn counts_no_byte_past_the_last_offset(rt: HostRuntime) -> Done {
+fn counts_no_byte_past_the_last_offset(rt: HostRuntime) -> Verdict {
     let reader = b"\x01\x02".as_slice();
     plays(
         &rt,

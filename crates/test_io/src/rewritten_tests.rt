@@ -4,12 +4,12 @@ use crate::script::plays;
 use cbor_read::MutSliceRead;
 use std::alloc::Global;
 use std::process::Abort;
-use test_checks::Done;
+use test_checks::Verdict;
 
 const BYTES: [u8; 12] = *b"\x63foobarba\xc3\x28\xf6";
 
 /// The calls of a script, on these bytes, leave them as they are.
-fn leaves_all(rt: &impl Abort, alloc: Global, script: &str) -> Done {
+fn leaves_all(rt: &impl Abort, alloc: Global, script: &str) -> Verdict {
     let mut bytes = BYTES;
     plays(rt, alloc, &mut MutSliceRead::new(&mut bytes), script)?;
     assert!(rt; bytes == BYTES);
@@ -17,7 +17,7 @@ fn leaves_all(rt: &impl Abort, alloc: Global, script: &str) -> Done {
 }
 
 #[test]
-fn leaves_its_bytes_where_none_is_joined(rt: HostRuntime) -> Done {
+fn leaves_its_bytes_where_none_is_joined(rt: HostRuntime) -> Verdict {
     for script in [
         r"next = c; next = f",
         r"peek = c; discard; peek = f",
@@ -36,7 +36,7 @@ fn leaves_its_bytes_where_none_is_joined(rt: HostRuntime) -> Done {
 
 // Refused, they change none either, and the first part that is joined stays where it is.
 #[test]
-fn leaves_its_bytes_where_it_is_refused(rt: HostRuntime) -> Done {
+fn leaves_its_bytes_where_it_is_refused(rt: HostRuntime) -> Verdict {
     for script in [
         r"skip 4; vector 9 = EOF while parsing a value at offset 12",
         r"skip 4; fill 9 = EOF while parsing a value at offset 12",

@@ -15,7 +15,7 @@ use std::fmt;
 use std::fmt::InlineText;
 use std::process::Abort;
 use std::test::Fail;
-use test_checks::Done;
+use test_checks::Verdict;
 
 /// What a call answers.
 type Answer = InlineText<96>;
@@ -26,7 +26,7 @@ pub fn plays<'de, R: Read<'de>>(
     alloc: Global,
     source: &mut R,
     script: &str,
-) -> Done {
+) -> Verdict {
     for line in script.split(';') {
         let (call, want) = line.split_once('=').unwrap_or((line, ""));
         is_said(rt, line, said(alloc, source, call.trim())?, want.trim())?;
@@ -41,7 +41,7 @@ pub fn fails<'de, R: Read<'de>>(
     alloc: Global,
     source: &mut R,
     script: &str,
-) -> Done {
+) -> Verdict {
     for line in script.split(';') {
         let (call, want) = line.split_once('=').unwrap_or((line, ""));
         let answer = said(alloc, source, call.trim())?;
@@ -54,7 +54,7 @@ pub fn fails<'de, R: Read<'de>>(
 }
 
 // The answer is the one that is wanted.
-fn is_said(rt: &impl Abort, line: &str, answer: Answer, want: &str) -> Done {
+fn is_said(rt: &impl Abort, line: &str, answer: Answer, want: &str) -> Verdict {
     if answer.as_str() == "out of memory" {
         return Err(Fail::from(AllocError));
     }

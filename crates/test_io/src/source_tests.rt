@@ -12,38 +12,38 @@ use std::alloc::{AllocError, Global};
 use std::io::ErrorKind;
 use std::process::Abort;
 use std::test::Fail;
-use test_checks::{Done, is_refused};
+use test_checks::{Verdict, is_refused};
 
 // ---- sources of these bytes
 
-fn by_slice(rt: &impl Abort, alloc: Global, bytes: &[u8], script: &str) -> Done {
+fn by_slice(rt: &impl Abort, alloc: Global, bytes: &[u8], script: &str) -> Verdict {
     plays(rt, alloc, &mut SliceRead::new(alloc, bytes), script)
 }
 
 /// The scratch has so many bytes, 8 at most.
-fn by_scratch(rt: &impl Abort, alloc: Global, bytes: &[u8], room: usize, script: &str) -> Done {
+fn by_scratch(rt: &impl Abort, alloc: Global, bytes: &[u8], room: usize, script: &str) -> Verdict {
     let mut scratch = [7; 8];
     let scratch = &mut scratch[..room.min(8)];
     plays(rt, alloc, &mut SliceReadFixed::new(bytes, scratch), script)
 }
 
-fn in_place(rt: &impl Abort, alloc: Global, bytes: &[u8], script: &str) -> Done {
+fn in_place(rt: &impl Abort, alloc: Global, bytes: &[u8], script: &str) -> Verdict {
     let mut copy = Vec::from_slice(alloc, bytes)?;
     plays(rt, alloc, &mut MutSliceRead::new(&mut copy), script)
 }
 
 /// The reader gives so many bytes a call.
-fn by_reader(rt: &impl Abort, alloc: Global, bytes: &[u8], piece: usize, script: &str) -> Done {
+fn by_reader(rt: &impl Abort, alloc: Global, bytes: &[u8], piece: usize, script: &str) -> Verdict {
     let reader = PieceReader::new(bytes, piece);
     plays(rt, alloc, &mut IoRead::new(alloc, reader), script)
 }
 
-fn by_own(rt: &impl Abort, alloc: Global, bytes: &[u8], script: &str) -> Done {
+fn by_own(rt: &impl Abort, alloc: Global, bytes: &[u8], script: &str) -> Verdict {
     plays(rt, alloc, &mut owned(alloc, bytes)?, script)
 }
 
 /// By each source that has all its bytes at hand; the scratch has two bytes.
-fn by_each_at_hand(rt: &impl Abort, alloc: Global, bytes: &[u8], script: &str) -> Done {
+fn by_each_at_hand(rt: &impl Abort, alloc: Global, bytes: &[u8], script: &str) -> Verdict {
     by_slice(rt, alloc, bytes, script)?;
     by_scratch(rt, alloc, bytes, 2, script)?;
     in_place(rt, alloc, bytes, script)?;
@@ -51,7 +51,7 @@ fn by_each_at_hand(rt: &impl Abort, alloc: Global, bytes: &[u8], script: &str) -
 }
 
 /// By each of these, and by readers of one byte and of three a call.
-fn by_each(rt: &impl Abort, alloc: Global, bytes: &[u8], script: &str) -> Done {
+fn by_each(rt: &impl Abort, alloc: Global, bytes: &[u8], script: &str) -> Verdict {
     by_each_at_hand(rt, alloc, bytes, script)?;
     by_reader(rt, alloc, bytes, 1, script)?;
     by_reader(rt, alloc, bytes, 3, script)
@@ -62,7 +62,7 @@ fn by_each(rt: &impl Abort, alloc: Global, bytes: &[u8], script: &str) -> Done {
 const BYTES: &[u8] = b"\x63foo\x18\x2a\xf6";
 
 #[test]
-fn gives_its_bytes(rt: HostRuntime) -> Done {
+fn gives_its_bytes(rt: HostRuntime) -> Verdict {
     by_each(
         &rt,
         rt.alloc(),
@@ -75,7 +75,7 @@ fn gives_its_bytes(rt: HostRuntime) -> Done {
 }
 
 #[test]
-fn shows_the_bytes_to_come(rt: HostRuntime) -> Done {
+fn shows_the_bytes_to_come(rt: HostRuntime) -> Verdict {
     by_each_at_hand(
         &rt,
         rt.alloc(),
@@ -86,7 +86,7 @@ fn shows_the_bytes_to_come(rt: HostRuntime) -> Done {
 }
 
 #[test]
-fn fills_a_vector(rt: HostRuntime) -> Done {
+fn fills_a_vector(rt: HostRuntime) -> Verdict {
     by_each(
         &rt,
         rt.alloc(),
@@ -99,7 +99,7 @@ fn fills_a_vector(rt: HostRuntime) -> Done {
 }
 
 #[test]
-fn skips_bytes(rt: HostRuntime) -> Done {
+fn skips_bytes(rt: HostRuntime) -> Verdict {
     by_each(
         &rt,
         rt.alloc(),
@@ -127,7 +127,7 @@ const ENDS: &str = r"next = \x01;
 
 // Where both the input and the scratch are too short, it is the end of the input that is reported.
 #[test]
-fn reports_its_end(rt: HostRuntime) -> Done {
+fn reports_its_end(rt: HostRuntime) -> Verdict {
     let alloc = rt.alloc();
     by_each_at_hand(&rt, alloc, b"\x01\x02\x03", ENDS)?;
     by_scratch(&rt, alloc, b"\x01\x02\x03", 0, ENDS)?;
@@ -138,7 +138,7 @@ fn reports_its_end(rt: HostRuntime) -> Done {
 
 // The chunks `ab` and `cd` fit a scratch of two bytes.
 #[test]
-fn joins_chunks(rt: HostRuntime) -> Done {
+fn joins_chunks(rt: HostRuntime) -> Verdict {
     by_each(
         &rt,
         rt.alloc(),
@@ -150,7 +150,7 @@ fn joins_chunks(rt: HostRuntime) -> Done {
 }
 
 #[test]
-fn says_who_lends(rt: HostRuntime) -> Done {
+fn says_who_lends(rt: HostRuntime) -> Verdict {
     let alloc = rt.alloc();
     let by_input = "lend 2 = input:ab; join 1; lend_joined = source:c; lend 0 = input:";
     by_slice(&rt, alloc, b"abc", by_input)?;
@@ -188,7 +188,7 @@ fn are_foo_and_bar(rt: &impl Abort, parts: (&[u8], &[u8])) {
 }
 
 #[test]
-fn lends_two_parts_of_a_slice(rt: HostRuntime) -> Done {
+fn lends_two_parts_of_a_slice(rt: HostRuntime) -> Verdict {
     let bytes = *b"foobar";
     let mut source = SliceRead::new(rt.alloc(), &bytes);
     are_foo_and_bar(&rt, two_parts(&rt, &mut source)?);
@@ -196,7 +196,7 @@ fn lends_two_parts_of_a_slice(rt: HostRuntime) -> Done {
 }
 
 #[test]
-fn lends_two_parts_beside_a_scratch(rt: HostRuntime) -> Done {
+fn lends_two_parts_beside_a_scratch(rt: HostRuntime) -> Verdict {
     let bytes = *b"foobar";
     let mut source = SliceReadFixed::new(&bytes, &mut []);
     are_foo_and_bar(&rt, two_parts(&rt, &mut source)?);
@@ -204,7 +204,7 @@ fn lends_two_parts_beside_a_scratch(rt: HostRuntime) -> Done {
 }
 
 #[test]
-fn lends_two_parts_of_what_is_rewritten(rt: HostRuntime) -> Done {
+fn lends_two_parts_of_what_is_rewritten(rt: HostRuntime) -> Verdict {
     let mut bytes = *b"foobarx";
     let mut source = MutSliceRead::new(&mut bytes);
     let parts = two_parts(&rt, &mut source)?;
@@ -220,7 +220,7 @@ fn lends_two_parts_of_what_is_rewritten(rt: HostRuntime) -> Done {
 
 // What was joined stays as it is while more is joined after it.
 #[test]
-fn lends_what_was_joined(rt: HostRuntime) -> Done {
+fn lends_what_was_joined(rt: HostRuntime) -> Verdict {
     let mut bytes = *b"aaab\xffcd62";
     let mut source = MutSliceRead::new(&mut bytes);
     let chunks = r"clear; next = a; join 1; next = a; join 1; next = \xff";
@@ -235,7 +235,7 @@ fn lends_what_was_joined(rt: HostRuntime) -> Done {
 
 // The end is counted from the input's start, also after what was lent.
 #[test]
-fn counts_what_was_lent(rt: HostRuntime) -> Done {
+fn counts_what_was_lent(rt: HostRuntime) -> Verdict {
     in_place(
         &rt,
         rt.alloc(),
@@ -252,7 +252,7 @@ fn counts_what_was_lent(rt: HostRuntime) -> Done {
 
 // A chunk that is longer than what lies between moves over its own bytes.
 #[test]
-fn joins_long_chunks_in_place(rt: HostRuntime) -> Done {
+fn joins_long_chunks_in_place(rt: HostRuntime) -> Verdict {
     in_place(
         &rt,
         rt.alloc(),
@@ -266,7 +266,7 @@ fn joins_long_chunks_in_place(rt: HostRuntime) -> Done {
 // Chunks that are shorter than what lies between, as long and longer: each follows those before it,
 // and the slice has all its bytes afterwards.
 #[test]
-fn loses_no_byte_in_place(rt: HostRuntime) -> Done {
+fn loses_no_byte_in_place(rt: HostRuntime) -> Verdict {
     let mut bytes = *b"1a2bc3def4gh5ijklmnopq6r78";
     let script = "clear; next = 1; join 1; next = 2; join 2; next = 3; join 3; next = 4; join 2; \
         next = 5; join 9; next = 6; join 1; next = 7; lend_joined = input:abcdefghijklmnopqr; \
@@ -280,7 +280,7 @@ fn loses_no_byte_in_place(rt: HostRuntime) -> Done {
 // The chunks `ab` and `cd` want a scratch of 4 bytes: one of 3 is refused at the second chunk, and
 // nothing has changed then. It goes on byte by byte.
 #[test]
-fn reports_a_scratch_that_is_a_byte_too_short(rt: HostRuntime) -> Done {
+fn reports_a_scratch_that_is_a_byte_too_short(rt: HostRuntime) -> Verdict {
     by_scratch(
         &rt,
         rt.alloc(),
@@ -296,7 +296,7 @@ fn reports_a_scratch_that_is_a_byte_too_short(rt: HostRuntime) -> Done {
 // ---- readers
 
 #[test]
-fn hands_out_what_was_peeked_once(rt: HostRuntime) -> Done {
+fn hands_out_what_was_peeked_once(rt: HostRuntime) -> Verdict {
     by_reader(
         &rt,
         rt.alloc(),
@@ -309,7 +309,7 @@ fn hands_out_what_was_peeked_once(rt: HostRuntime) -> Done {
 }
 
 #[test]
-fn takes_no_byte_that_is_not_asked_for(rt: HostRuntime) -> Done {
+fn takes_no_byte_that_is_not_asked_for(rt: HostRuntime) -> Verdict {
     let mut reader = PieceReader::new(b"\x63foobar", 7);
     let script = "next = c; lend 3 = source:foo";
     plays(
@@ -323,7 +323,7 @@ fn takes_no_byte_that_is_not_asked_for(rt: HostRuntime) -> Done {
 }
 
 /// By a reader of a byte a call that reports this fault at this call, of which the first is 1.
-fn by_failing(rt: &impl Abort, alloc: Global, at: usize, kind: ErrorKind, script: &str) -> Done {
+fn by_failing(rt: &impl Abort, alloc: Global, at: usize, kind: ErrorKind, script: &str) -> Verdict {
     let reader = PieceReader::failing(b"\x18\x2a", 1, at, kind);
     plays(rt, alloc, &mut IoRead::new(alloc, reader), script)
 }
@@ -331,7 +331,7 @@ fn by_failing(rt: &impl Abort, alloc: Global, at: usize, kind: ErrorKind, script
 // An interrupted read is a fault like any other, and so is a device's lack of memory. It takes
 // nothing: the call after it goes on where the source stood.
 #[test]
-fn goes_on_after_a_fault(rt: HostRuntime) -> Done {
+fn goes_on_after_a_fault(rt: HostRuntime) -> Verdict {
     for kind in [ErrorKind::Interrupted, ErrorKind::OutOfMemory] {
         for script in [
             r"next = I/O error; offset = 0; next = \x18; next = *; next = none",
@@ -353,7 +353,7 @@ fn goes_on_after_a_fault(rt: HostRuntime) -> Done {
 
 // An argument of 8 bytes, by a reader that gives from one to all of them a call.
 #[test]
-fn takes_a_head_that_lies_in_several_pieces(rt: HostRuntime) -> Done {
+fn takes_a_head_that_lies_in_several_pieces(rt: HostRuntime) -> Verdict {
     let bytes = b"\x1b\x01\x02\x03\x04\x05\x06\x07\x08\xf6";
     let script = r"next = \x1b; fill 8 = \x01\x02\x03\x04\x05\x06\x07\x08; offset = 9;
         next = \xf6";
@@ -373,7 +373,7 @@ const TAKES_ALL: &str =
     offset = 13; peek = \x00; next = \x00; offset = 14; next = none";
 
 #[test]
-fn answers_alike_however_much_a_call_gives(rt: HostRuntime) -> Done {
+fn answers_alike_however_much_a_call_gives(rt: HostRuntime) -> Verdict {
     for piece in 1..15usize {
         by_reader(&rt, rt.alloc(), ALL, piece, TAKES_ALL)?;
     }
@@ -382,7 +382,7 @@ fn answers_alike_however_much_a_call_gives(rt: HostRuntime) -> Done {
 
 // A byte a call: 14 calls give one, and one more meets the end.
 #[test]
-fn reports_a_fault_at_any_call(rt: HostRuntime) -> Done {
+fn reports_a_fault_at_any_call(rt: HostRuntime) -> Verdict {
     let alloc = rt.alloc();
     for at in 1..16usize {
         let reader = PieceReader::failing(ALL, 1, at, ErrorKind::BrokenPipe);
@@ -393,7 +393,7 @@ fn reports_a_fault_at_any_call(rt: HostRuntime) -> Done {
 
 // It joins what came alone, and forgets it where it is told to.
 #[test]
-fn joins_what_came(rt: HostRuntime) -> Done {
+fn joins_what_came(rt: HostRuntime) -> Verdict {
     let alloc = rt.alloc();
     let script =
         "next = [; join 1099511627776 = EOF while parsing a value at offset 11; offset = 11; \
@@ -405,7 +405,7 @@ fn joins_what_came(rt: HostRuntime) -> Done {
 }
 
 #[test]
-fn takes_memory_for_what_came_alone(rt: HostRuntime) -> Done {
+fn takes_memory_for_what_came_alone(rt: HostRuntime) -> Verdict {
     let alloc = rt.alloc();
     let mut source = IoRead::new(alloc, PieceReader::new(b"foobarbazqu", 11));
     let mut out = Vec::new(alloc);
@@ -418,7 +418,7 @@ fn takes_memory_for_what_came_alone(rt: HostRuntime) -> Done {
 // A reader that takes memory itself, and makes a fault of a device of its want of it, is told apart
 // from the source that has none.
 #[test]
-fn reports_its_own_want_of_memory_from_its_readers(rt: HostRuntime) -> Done {
+fn reports_its_own_want_of_memory_from_its_readers(rt: HostRuntime) -> Verdict {
     let alloc = rt.alloc();
     let mut reader = HungryReader::new(alloc, b"foo");
     let joined = IoRead::new(alloc, &mut reader).read_to_buffer(3);
@@ -445,7 +445,7 @@ fn long_string(alloc: Global) -> Result<Vec<u8>, AllocError> {
 }
 
 #[test]
-fn takes_a_long_string_by_few_calls(rt: HostRuntime) -> Done {
+fn takes_a_long_string_by_few_calls(rt: HostRuntime) -> Verdict {
     let alloc = rt.alloc();
     let bytes = long_string(alloc)?;
     let mut reader = PieceReader::new(&bytes, 10_000);
@@ -458,7 +458,7 @@ fn takes_a_long_string_by_few_calls(rt: HostRuntime) -> Done {
 }
 
 #[test]
-fn fills_a_long_place_by_one_call(rt: HostRuntime) -> Done {
+fn fills_a_long_place_by_one_call(rt: HostRuntime) -> Verdict {
     let alloc = rt.alloc();
     let bytes = long_string(alloc)?;
     let mut room: Vec<u8> = vec![in alloc; 0; 10_000]?;
@@ -472,7 +472,7 @@ fn fills_a_long_place_by_one_call(rt: HostRuntime) -> Done {
 // ---- the calls of `Offset`
 
 /// Two bytes of these are taken, and counted.
-fn counts_two<S: Source + Offset>(rt: &impl Abort, source: &mut S) -> Done {
+fn counts_two<S: Source + Offset>(rt: &impl Abort, source: &mut S) -> Verdict {
     assert!(rt; source.byte_offset() == 0);
     source.skip(2)?;
     assert!(rt; source.byte_offset() == 2);
@@ -480,7 +480,7 @@ fn counts_two<S: Source + Offset>(rt: &impl Abort, source: &mut S) -> Done {
 }
 
 #[test]
-fn counts_the_bytes_taken(rt: HostRuntime) -> Done {
+fn counts_the_bytes_taken(rt: HostRuntime) -> Verdict {
     let alloc = rt.alloc();
     counts_two(&rt, &mut SliceRead::new(alloc, b"abc"))?;
     counts_two(&rt, &mut SliceReadFixed::new(b"abc", &mut []))?;

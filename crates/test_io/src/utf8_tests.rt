@@ -1,10 +1,10 @@
 //! The bounds of the well-formed sequences (the Unicode Standard, table 3-7).
 
 use cbor_io::utf8::from_utf8;
-use test_checks::Done;
+use test_checks::Verdict;
 
 #[test]
-fn first_and_last_characters_of_each_length(rt: HostRuntime) -> Done {
+fn first_and_last_characters_of_each_length(rt: HostRuntime) -> Verdict {
     for text in [
         b"\x00\x7f\xc2\x80\xdf\xbf".as_slice(),
         b"\xe0\xa0\x80\xed\x9f\xbf".as_slice(),

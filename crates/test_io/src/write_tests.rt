@@ -5,10 +5,10 @@ use std::alloc::Global;
 use std::io::ErrorKind;
 use std::process::Abort;
 use std::test::Fail;
-use test_checks::Done;
+use test_checks::Verdict;
 
 #[test]
-fn fills_a_slice(rt: HostRuntime) -> Done {
+fn fills_a_slice(rt: HostRuntime) -> Verdict {
     let mut room = [7; 7];
     let mut sink = SliceWrite::new(&mut room);
     has_written(&rt, &sink, 0);
@@ -24,7 +24,7 @@ fn fills_a_slice(rt: HostRuntime) -> Done {
 
 // A text of 6 bytes into a slice of 3: its head fits.
 #[test]
-fn refuses_a_piece_that_does_not_fit(rt: HostRuntime) -> Done {
+fn refuses_a_piece_that_does_not_fit(rt: HostRuntime) -> Verdict {
     let mut room = [7; 3];
     let mut sink = SliceWrite::new(&mut room);
     takes(&mut sink, b"\x66")?;
@@ -40,7 +40,7 @@ fn refuses_a_piece_that_does_not_fit(rt: HostRuntime) -> Done {
 }
 
 #[test]
-fn goes_on_after_a_piece_that_did_not_fit(rt: HostRuntime) -> Done {
+fn goes_on_after_a_piece_that_did_not_fit(rt: HostRuntime) -> Verdict {
     let mut room = [7; 3];
     let mut sink = SliceWrite::new(&mut room);
     refuses(&rt, &mut sink, b"four", "Scratch buffer too small");
@@ -66,7 +66,7 @@ fn refuses_any_byte_where_there_is_no_room(rt: HostRuntime) {
 }
 
 #[test]
-fn appends_to_a_vector(rt: HostRuntime) -> Done {
+fn appends_to_a_vector(rt: HostRuntime) -> Verdict {
     let mut bytes: Vec<u8> = vec![in rt.alloc(); 0x82]?;
     {
         let mut sink = &mut bytes;
@@ -79,7 +79,7 @@ fn appends_to_a_vector(rt: HostRuntime) -> Done {
 
 // Where an allocation fails, it has what it had before the piece.
 #[test]
-fn keeps_what_a_vector_has_that_cannot_grow(rt: HostRuntime) -> Done {
+fn keeps_what_a_vector_has_that_cannot_grow(rt: HostRuntime) -> Verdict {
     let whole = b"foobarfoobarfoobarfoobarfoobar";
     let mut sink: Vec<u8> = Vec::new(rt.alloc());
     for n in 0..5usize {
@@ -90,7 +90,7 @@ fn keeps_what_a_vector_has_that_cannot_grow(rt: HostRuntime) -> Done {
 }
 
 /// The vector, which has these bytes, takes a piece, or has them still.
-fn grows_or_stays(rt: &impl Abort, sink: &mut Vec<u8>, before: &[u8]) -> Done {
+fn grows_or_stays(rt: &impl Abort, sink: &mut Vec<u8>, before: &[u8]) -> Verdict {
     let Err(e) = sink.write_all(b"foobar") else {
         return Ok(());
     };
@@ -100,7 +100,7 @@ fn grows_or_stays(rt: &impl Abort, sink: &mut Vec<u8>, before: &[u8]) -> Done {
 }
 
 #[test]
-fn writes_to_a_writer(rt: HostRuntime) -> Done {
+fn writes_to_a_writer(rt: HostRuntime) -> Verdict {
     let mut writer = FailingWriter::new(rt.alloc(), 4, ErrorKind::BrokenPipe)?;
     {
         let mut sink = IoWrite::new(&mut writer);
@@ -112,7 +112,7 @@ fn writes_to_a_writer(rt: HostRuntime) -> Done {
 }
 
 #[test]
-fn reports_a_writers_fault(rt: HostRuntime) -> Done {
+fn reports_a_writers_fault(rt: HostRuntime) -> Verdict {
     for left in 0..3usize {
         fails_after(&rt, rt.alloc(), left)?;
     }
@@ -120,7 +120,7 @@ fn reports_a_writers_fault(rt: HostRuntime) -> Done {
 }
 
 /// A writer that fails after so many writes has taken what they gave.
-fn fails_after(rt: &impl Abort, alloc: Global, left: usize) -> Done {
+fn fails_after(rt: &impl Abort, alloc: Global, left: usize) -> Verdict {
     let mut writer = FailingWriter::new(alloc, left, ErrorKind::BrokenPipe)?;
     refuses(rt, &mut IoWrite::new(&mut writer), b"foobar", "I/O error");
     assert_eq!(rt; writer.taken.len().checked_sub(left), Some(left));
@@ -130,7 +130,7 @@ fn fails_after(rt: &impl Abort, alloc: Global, left: usize) -> Done {
 // What was interrupted is tried again, and no other fault is, however it is named: a second call at
 // the failing write, and no third.
 #[test]
-fn tries_no_other_fault_again(rt: HostRuntime) -> Done {
+fn tries_no_other_fault_again(rt: HostRuntime) -> Verdict {
     let alloc = rt.alloc();
     fails_at_once(&rt, alloc, ErrorKind::BrokenPipe)?;
     fails_at_once(&rt, alloc, ErrorKind::WouldBlock)?;
@@ -139,7 +139,7 @@ fn tries_no_other_fault_again(rt: HostRuntime) -> Done {
     fails_at_once(&rt, alloc, ErrorKind::Other)
 }
 
-fn fails_at_once(rt: &impl Abort, alloc: Global, kind: ErrorKind) -> Done {
+fn fails_at_once(rt: &impl Abort, alloc: Global, kind: ErrorKind) -> Verdict {
     let mut writer = FailingWriter::new(alloc, 0, kind)?;
     refuses(rt, &mut IoWrite::new(&mut writer), b"foobar", "I/O error");
     assert_eq!(rt; writer.calls, 2);
@@ -148,7 +148,7 @@ fn fails_at_once(rt: &impl Abort, alloc: Global, kind: ErrorKind) -> Done {
 }
 
 #[test]
-fn reports_a_writer_that_takes_nothing(rt: HostRuntime) -> Done {
+fn reports_a_writer_that_takes_nothing(rt: HostRuntime) -> Verdict {
     let mut sink = IoWrite::new(FullWriter);
     refuses(&rt, &mut sink, b"\xf6", "I/O error");
     takes(&mut sink, b"")

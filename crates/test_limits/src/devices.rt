@@ -9,7 +9,7 @@ use std::io;
 use std::io::ErrorKind;
 use std::process::Abort;
 use std::test::Fail;
-use test_checks::Done;
+use test_checks::Verdict;
 
 const KINDS: [ErrorKind; 6] = [
     ErrorKind::BrokenPipe,
@@ -21,7 +21,7 @@ const KINDS: [ErrorKind; 6] = [
 ];
 
 /// The call was refused for a fault of this kind.
-fn is_fault<T: Drop>(rt: &impl Abort, answer: Answer<T>, kind: ErrorKind) -> Done {
+fn is_fault<T: Drop>(rt: &impl Abort, answer: Answer<T>, kind: ErrorKind) -> Verdict {
     let Err(e) = answer else {
         return Err(Fail::from("no fault"));
     };
@@ -54,14 +54,14 @@ impl io::Read for FailingReader<'_> {
 }
 
 /// A value is wanted, and the fault after these bytes is reported.
-fn value_fails(rt: &impl Abort, alloc: Global, rest: &[u8], kind: ErrorKind) -> Done {
+fn value_fails(rt: &impl Abort, alloc: Global, rest: &[u8], kind: ErrorKind) -> Verdict {
     let answer = from_reader::<Value, _>(alloc, FailingReader { rest, kind });
     is_fault(rt, answer, kind)
 }
 
 // At the first byte, within a head, a text, an array and chunks, and where nothing more is wanted.
 #[test]
-fn reports_the_kind_of_a_readers_fault(rt: HostRuntime) -> Done {
+fn reports_the_kind_of_a_readers_fault(rt: HostRuntime) -> Verdict {
     for kind in KINDS {
         for rest in [
             b"".as_slice(),
@@ -79,7 +79,7 @@ fn reports_the_kind_of_a_readers_fault(rt: HostRuntime) -> Done {
 
 // In what is passed over, in a text that is lent, and in chunks that are joined.
 #[test]
-fn reports_the_kind_of_a_fault_in_what_is_not_kept(rt: HostRuntime) -> Done {
+fn reports_the_kind_of_a_fault_in_what_is_not_kept(rt: HostRuntime) -> Verdict {
     let alloc = rt.alloc();
     for kind in KINDS {
         for rest in [b"\x43fo".as_slice(), b"\x63fo", b"\x7f\x61a\x62b", b"\xa1"] {
@@ -94,7 +94,7 @@ fn reports_the_kind_of_a_fault_in_what_is_not_kept(rt: HostRuntime) -> Done {
 
 // A reader's interruption is reported, and not tried again.
 #[test]
-fn reports_an_interruption_of_a_reader(rt: HostRuntime) -> Done {
+fn reports_an_interruption_of_a_reader(rt: HostRuntime) -> Verdict {
     value_fails(&rt, rt.alloc(), b"\x82\x01", ErrorKind::Interrupted)
 }
 
@@ -149,7 +149,7 @@ fn writes(alloc: Global, writer: &mut Interrupted, value: &Value) -> Answer<()> 
 }
 
 #[test]
-fn reports_the_kind_of_a_writers_fault(rt: HostRuntime) -> Done {
+fn reports_the_kind_of_a_writers_fault(rt: HostRuntime) -> Verdict {
     let alloc = rt.alloc();
     let value = text(alloc)?;
     for kind in KINDS {
@@ -162,7 +162,7 @@ fn reports_the_kind_of_a_writers_fault(rt: HostRuntime) -> Done {
 }
 
 #[test]
-fn tries_an_interrupted_write_again_however_often(rt: HostRuntime) -> Done {
+fn tries_an_interrupted_write_again_however_often(rt: HostRuntime) -> Verdict {
     let alloc = rt.alloc();
     let value = text(alloc)?;
     for times in [1, 2, 1000, 100_000] {

@@ -7,8 +7,8 @@ mod devices;
 #[cfg(test)]
 mod long;
 #[cfg(test)]
-mod peer;
+mod memory;
 #[cfg(test)]
-mod room;
+mod peer;
 #[cfg(test)]
 mod tuples;

@@ -10,7 +10,7 @@ use cbor_value::Value;
 use std::alloc::{AllocError, Global};
 use std::process::Abort;
 use std::test::Fail;
-use test_checks::{Done, is_refused};
+use test_checks::{Verdict, is_refused};
 
 const MANY: usize = 65_536;
 
@@ -38,7 +38,7 @@ fn up_to_break(
 }
 
 /// The value is written as these bytes by each sink.
-fn writes(rt: &impl Abort, alloc: Global, value: &Value, want: &[u8]) -> Done {
+fn writes(rt: &impl Abort, alloc: Global, value: &Value, want: &[u8]) -> Verdict {
     assert!(rt; to_vec(alloc, value)?.as_slice() == want);
     let mut file: Vec<u8> = Vec::with_capacity(alloc, want.len())?;
     to_writer(alloc, &mut IoWrite::new(&mut file), value)?;
@@ -47,7 +47,7 @@ fn writes(rt: &impl Abort, alloc: Global, value: &Value, want: &[u8]) -> Done {
 }
 
 /// A slice of their length is filled by the value's bytes.
-fn fills(rt: &impl Abort, alloc: Global, value: &Value, want: &[u8]) -> Done {
+fn fills(rt: &impl Abort, alloc: Global, value: &Value, want: &[u8]) -> Verdict {
     let mut room: Vec<u8> = vec![in alloc; 0; want.len()]?;
     let mut sink = SliceWrite::new(&mut room);
     to_writer(alloc, &mut sink, value)?;
@@ -77,7 +77,7 @@ fn read(alloc: Global, bytes: &[u8], by: By) -> Answer<Value> {
 }
 
 /// The bytes are a value by each source, which is written as those.
-fn becomes(rt: &impl Abort, alloc: Global, bytes: &[u8], want: &[u8]) -> Done {
+fn becomes(rt: &impl Abort, alloc: Global, bytes: &[u8], want: &[u8]) -> Verdict {
     for by in [By::Slice, By::Scratch, By::MutSlice, By::Reader] {
         writes(rt, alloc, &read(alloc, bytes, by)?, want)?;
     }
@@ -85,13 +85,13 @@ fn becomes(rt: &impl Abort, alloc: Global, bytes: &[u8], want: &[u8]) -> Done {
 }
 
 /// They are the canonical encoding of it.
-fn stays(rt: &impl Abort, alloc: Global, bytes: &[u8]) -> Done {
+fn stays(rt: &impl Abort, alloc: Global, bytes: &[u8]) -> Verdict {
     becomes(rt, alloc, bytes, bytes)?;
     writes(rt, alloc, &from_slice_canonical(alloc, bytes)?, bytes)
 }
 
 #[test]
-fn keeps_long_strings(rt: HostRuntime) -> Done {
+fn keeps_long_strings(rt: HostRuntime) -> Verdict {
     let alloc = rt.alloc();
     for (head, part) in [
         (b"\x5a\0\x01\0\0", &b"\x2a"[..]),
@@ -104,7 +104,7 @@ fn keeps_long_strings(rt: HostRuntime) -> Done {
 }
 
 #[test]
-fn joins_many_chunks(rt: HostRuntime) -> Done {
+fn joins_many_chunks(rt: HostRuntime) -> Verdict {
     let alloc = rt.alloc();
     for (open, chunk, head, part) in [
         (b"\x5f", b"\x41\x2a", b"\x5a\0\x01\0\0", b"\x2a"),
@@ -118,7 +118,7 @@ fn joins_many_chunks(rt: HostRuntime) -> Done {
 
 // Bytes that were moved for each chunk would take minutes.
 #[test]
-fn joins_two_million_chunks_in_place(rt: HostRuntime) -> Done {
+fn joins_two_million_chunks_in_place(rt: HostRuntime) -> Verdict {
     let alloc = rt.alloc();
     let chunks = times(alloc, b"", b"\x41\x2a", MANY)?;
     let mut bytes = up_to_break(alloc, b"\x5f", &chunks, 32)?;
@@ -129,7 +129,7 @@ fn joins_two_million_chunks_in_place(rt: HostRuntime) -> Done {
 }
 
 #[test]
-fn joins_long_chunks(rt: HostRuntime) -> Done {
+fn joins_long_chunks(rt: HostRuntime) -> Verdict {
     let alloc = rt.alloc();
     let chunk = times(alloc, b"\x7a\0\x01\0\0", b"a", MANY)?;
     let bytes = up_to_break(alloc, b"\x7f", &chunk, 2)?;
@@ -138,7 +138,7 @@ fn joins_long_chunks(rt: HostRuntime) -> Done {
 }
 
 #[test]
-fn keeps_long_arrays(rt: HostRuntime) -> Done {
+fn keeps_long_arrays(rt: HostRuntime) -> Verdict {
     let alloc = rt.alloc();
     let array = times(alloc, b"\x9a\0\x01\0\0", b"\xf6", MANY)?;
     stays(&rt, alloc, &array)?;
@@ -165,7 +165,7 @@ fn push_pairs(bytes: &mut Vec<u8>) -> Result<(), AllocError> {
 }
 
 #[test]
-fn keeps_long_maps(rt: HostRuntime) -> Done {
+fn keeps_long_maps(rt: HostRuntime) -> Verdict {
     let alloc = rt.alloc();
     let mut map = Vec::from_slice(alloc, b"\xba\0\x01\0\0")?;
     push_pairs(&mut map)?;
@@ -187,7 +187,7 @@ fn counts(alloc: Global, bytes: &[u8]) -> Result<usize, Fail> {
 }
 
 #[test]
-fn reads_long_streams(rt: HostRuntime) -> Done {
+fn reads_long_streams(rt: HostRuntime) -> Verdict {
     let alloc = rt.alloc();
     let count = counts(alloc, &times(alloc, b"", b"\x62ab", MANY)?)?;
     assert!(rt; count == MANY);
@@ -203,7 +203,7 @@ fn skipped_by_reader(alloc: Global, bytes: &[u8]) -> Answer<IgnoredAny> {
 }
 
 #[test]
-fn refuses_long_items_that_are_cut_off(rt: HostRuntime) -> Done {
+fn refuses_long_items_that_are_cut_off(rt: HostRuntime) -> Verdict {
     let alloc = rt.alloc();
     let text = times(alloc, b"\x7a\0\x01\0\x01", b"a", MANY)?;
     let end = "EOF while parsing a value at offset 65541";
@@ -216,7 +216,7 @@ fn refuses_long_items_that_are_cut_off(rt: HostRuntime) -> Done {
 }
 
 #[test]
-fn refuses_a_long_text_that_is_not_utf8(rt: HostRuntime) -> Done {
+fn refuses_a_long_text_that_is_not_utf8(rt: HostRuntime) -> Verdict {
     let alloc = rt.alloc();
     let mut text = times(alloc, b"\x7a\0\x01\0\x01", b"a", MANY)?;
     text.push(0xff)?;
@@ -227,7 +227,7 @@ fn refuses_a_long_text_that_is_not_utf8(rt: HostRuntime) -> Done {
 
 // A message owns its text, which is printed whole.
 #[test]
-fn prints_long_messages(rt: HostRuntime) -> Done {
+fn prints_long_messages(rt: HostRuntime) -> Verdict {
     let alloc = rt.alloc();
     let bytes = times(alloc, b"", b"a", MANY)?;
     let text = str::from_utf8(&bytes).map_err(|_| Fail::from("no text"))?;

@@ -5,7 +5,7 @@ use cbor_value::Value;
 use std::alloc::{AllocError, Global};
 use std::io;
 use std::process::Abort;
-use test_checks::Done;
+use test_checks::Verdict;
 
 /// Gives up to so many bytes a call, and counts them and the calls.
 #[derive(Drop)]
@@ -39,14 +39,14 @@ impl io::Read for Peer {
 }
 
 /// Reads the first item of a stream.
-fn first(alloc: Global, peer: &mut Peer) -> Done {
+fn first(alloc: Global, peer: &mut Peer) -> Verdict {
     let mut stream = Deserializer::from_reader(alloc, peer).into_iter::<Value>();
     stream.next().ok_or("none")??;
     Ok(())
 }
 
 /// Of this item and another the first is given once its bytes came, and no more of them.
-fn asks_for(rt: &impl Abort, alloc: Global, item: &[u8]) -> Done {
+fn asks_for(rt: &impl Abort, alloc: Global, item: &[u8]) -> Verdict {
     let mut bytes = Vec::from_slice(alloc, item)?;
     bytes.extend_from_slice(item)?;
     for at_once in [1, 3, 100] {
@@ -59,7 +59,7 @@ fn asks_for(rt: &impl Abort, alloc: Global, item: &[u8]) -> Done {
 }
 
 #[test]
-fn asks_for_no_byte_behind_a_leaf(rt: HostRuntime) -> Done {
+fn asks_for_no_byte_behind_a_leaf(rt: HostRuntime) -> Verdict {
     let alloc = rt.alloc();
     for item in [
         b"\x00".as_slice(),
@@ -78,7 +78,7 @@ fn asks_for_no_byte_behind_a_leaf(rt: HostRuntime) -> Done {
 }
 
 #[test]
-fn asks_for_no_byte_behind_what_holds_items(rt: HostRuntime) -> Done {
+fn asks_for_no_byte_behind_what_holds_items(rt: HostRuntime) -> Verdict {
     let alloc = rt.alloc();
     for item in [
         b"\x80".as_slice(),
@@ -96,21 +96,21 @@ fn asks_for_no_byte_behind_what_holds_items(rt: HostRuntime) -> Done {
 }
 
 /// Reads the first list of a stream.
-fn first_list(alloc: Global, peer: &mut Peer) -> Done {
+fn first_list(alloc: Global, peer: &mut Peer) -> Verdict {
     let mut stream = Deserializer::from_reader(alloc, peer).into_iter::<Vec<u8>>();
     stream.next().ok_or("none")??;
     Ok(())
 }
 
 /// Reads the first text of a stream.
-fn first_text(alloc: Global, peer: &mut Peer) -> Done {
+fn first_text(alloc: Global, peer: &mut Peer) -> Verdict {
     let mut stream = Deserializer::from_reader(alloc, peer).into_iter::<String>();
     stream.next().ok_or("none")??;
     Ok(())
 }
 
 #[test]
-fn asks_for_no_byte_behind_a_type(rt: HostRuntime) -> Done {
+fn asks_for_no_byte_behind_a_type(rt: HostRuntime) -> Verdict {
     let alloc = rt.alloc();
     let mut peer = Peer::new(alloc, b"\x9f\x01\x02\xff\x9f", 1)?;
     first_list(alloc, &mut peer)?;

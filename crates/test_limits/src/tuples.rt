@@ -4,7 +4,7 @@
 use cbor_de::{Deserialize, SliceRead, from_slice};
 use std::alloc::Global;
 use std::fmt::InlineText;
-use test_checks::{Done, is_refused};
+use test_checks::{Verdict, is_refused};
 
 // Arrays of no zero up to nine.
 const ZEROS: [&'static [u8]; 10] = [
@@ -39,13 +39,13 @@ fn refuses<'a, T: Deserialize<'a, SliceRead<'a>>>(
     alloc: Global,
     bytes: &'a [u8],
     words: &str,
-) -> Done {
+) -> Verdict {
     is_refused(from_slice::<T>(alloc, bytes), words)
 }
 
 /// A tuple of so many refuses each array of fewer, and each of more: where a count is declared,
 /// behind the last item that is wanted; up to a break, behind the first byte of the next.
-fn wants<'a, T: Deserialize<'a, SliceRead<'a>>>(alloc: Global, count: usize) -> Done {
+fn wants<'a, T: Deserialize<'a, SliceRead<'a>>>(alloc: Global, count: usize) -> Verdict {
     for (arrays, before_next) in [(&ZEROS, 1), (&OPEN, 2)] {
         for (n, bytes) in arrays.iter().enumerate() {
             if n < count {
@@ -62,7 +62,7 @@ fn wants<'a, T: Deserialize<'a, SliceRead<'a>>>(alloc: Global, count: usize) -> 
 }
 
 #[test]
-fn takes_its_length_alone_up_to_four(rt: HostRuntime) -> Done {
+fn takes_its_length_alone_up_to_four(rt: HostRuntime) -> Verdict {
     let alloc = rt.alloc();
     wants::<(u8,)>(alloc, 1)?;
     wants::<(u8, u8)>(alloc, 2)?;
@@ -71,7 +71,7 @@ fn takes_its_length_alone_up_to_four(rt: HostRuntime) -> Done {
 }
 
 #[test]
-fn takes_its_length_alone_beyond_four(rt: HostRuntime) -> Done {
+fn takes_its_length_alone_beyond_four(rt: HostRuntime) -> Verdict {
     let alloc = rt.alloc();
     wants::<(u8, u8, u8, u8, u8)>(alloc, 5)?;
     wants::<(u8, u8, u8, u8, u8, u8)>(alloc, 6)?;

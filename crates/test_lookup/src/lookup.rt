@@ -5,7 +5,7 @@ use cbor_value::{Float, Map, Value};
 use std::alloc::Global;
 use std::process::Abort;
 use std::test::Fail;
-use test_checks::Done;
+use test_checks::Verdict;
 
 /// A map of so many text keys, "0" and on, and of as many integers before and after 0; and of keys
 /// of other kinds.
@@ -46,7 +46,7 @@ fn mixed(alloc: Global) -> Result<Map, Fail> {
 }
 
 /// The text is found, with itself, exactly where it is a key; so it is by its value.
-fn finds_text(rt: &impl Abort, alloc: Global, map: &Map, key: &str, there: bool) -> Done {
+fn finds_text(rt: &impl Abort, alloc: Global, map: &Map, key: &str, there: bool) -> Verdict {
     let own = text(alloc, key)?;
     assert_eq!(rt; map.get_str(key), if there { Some(&own) } else { None });
     assert_eq!(rt; map.get_str(key), map.get(&own));
@@ -54,7 +54,7 @@ fn finds_text(rt: &impl Abort, alloc: Global, map: &Map, key: &str, there: bool)
 }
 
 #[test]
-fn finds_texts(rt: HostRuntime) -> Done {
+fn finds_texts(rt: HostRuntime) -> Verdict {
     let alloc = rt.alloc();
     let map = mixed(alloc)?;
     for key in [
@@ -84,7 +84,7 @@ fn finds_integer(rt: &impl Abort, map: &Map, key: i128, there: bool) {
 }
 
 #[test]
-fn finds_integers(rt: HostRuntime) -> Done {
+fn finds_integers(rt: HostRuntime) -> Verdict {
     let map = mixed(rt.alloc())?;
     for key in [
         0,
@@ -105,7 +105,7 @@ fn finds_integers(rt: HostRuntime) -> Done {
 }
 
 #[test]
-fn compares_as_few_texts_and_integers(rt: HostRuntime) -> Done {
+fn compares_as_few_texts_and_integers(rt: HostRuntime) -> Verdict {
     let map = mixed(rt.alloc())?;
     assert_eq!(rt; map.len(), 23);
     let (value, count) = map.get_str_counted("nothing");
@@ -127,7 +127,7 @@ fn nested(alloc: Global) -> Result<Value, Fail> {
 }
 
 #[test]
-fn looks_into_maps_and_arrays(rt: HostRuntime) -> Done {
+fn looks_into_maps_and_arrays(rt: HostRuntime) -> Verdict {
     let alloc = rt.alloc();
     let value = nested(alloc)?;
     let items = value.get_str("a").ok_or("no a")?;
@@ -141,7 +141,7 @@ fn looks_into_maps_and_arrays(rt: HostRuntime) -> Done {
 }
 
 #[test]
-fn finds_nothing_in_other_kinds(rt: HostRuntime) -> Done {
+fn finds_nothing_in_other_kinds(rt: HostRuntime) -> Verdict {
     let value = nested(rt.alloc())?;
     assert_eq!(rt; value.get_index(0), None);
     let items = value.get_str("a").ok_or("no a")?;

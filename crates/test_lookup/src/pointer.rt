@@ -5,7 +5,7 @@ use cbor_value::{Map, Value};
 use std::alloc::Global;
 use std::process::Abort;
 use std::test::Fail;
-use test_checks::Done;
+use test_checks::Verdict;
 
 /// The document: a key for each number from 0 to 8, and "foo" for `["bar", "baz"]`.
 fn document(alloc: Global) -> Result<Value, Fail> {
@@ -25,7 +25,7 @@ fn leads_to(rt: &impl Abort, value: &Value, path: &str, number: i128) {
 }
 
 #[test]
-fn leads_to_numbers(rt: HostRuntime) -> Done {
+fn leads_to_numbers(rt: HostRuntime) -> Verdict {
     let value = document(rt.alloc())?;
     leads_to(&rt, &value, "/", 0);
     leads_to(&rt, &value, "/a~1b", 1);
@@ -40,7 +40,7 @@ fn leads_to_numbers(rt: HostRuntime) -> Done {
 }
 
 #[test]
-fn leads_to_the_whole_and_into_the_array(rt: HostRuntime) -> Done {
+fn leads_to_the_whole_and_into_the_array(rt: HostRuntime) -> Verdict {
     let alloc = rt.alloc();
     let value = document(alloc)?;
     assert_eq!(rt; value.pointer(""), Some(&value));
@@ -52,7 +52,7 @@ fn leads_to_the_whole_and_into_the_array(rt: HostRuntime) -> Done {
 }
 
 #[test]
-fn leads_nowhere(rt: HostRuntime) -> Done {
+fn leads_nowhere(rt: HostRuntime) -> Verdict {
     let value = document(rt.alloc())?;
     for path in [
         "foo", "/bar", "/foo/2", "/foo/-", "/foo/", "/a/b", "//", "/foo/0/0", "/m~1n",
@@ -63,7 +63,7 @@ fn leads_nowhere(rt: HostRuntime) -> Done {
 }
 
 #[test]
-fn takes_positions_in_one_spelling(rt: HostRuntime) -> Done {
+fn takes_positions_in_one_spelling(rt: HostRuntime) -> Verdict {
     let alloc = rt.alloc();
     let value = Value::Array(vec![in alloc; Value::Null, Value::Null]?);
     for token in ["0", "1"] {
@@ -94,7 +94,7 @@ fn leads_by(alloc: Global, value: &Value, token: &str) -> Result<bool, Fail> {
 }
 
 /// The one key of a map is found by this token, and by none that is its neighbour.
-fn is_token_of(rt: &impl Abort, alloc: Global, key: &str, token: &str) -> Done {
+fn is_token_of(rt: &impl Abort, alloc: Global, key: &str, token: &str) -> Verdict {
     let mut map = Map::new(alloc);
     map.insert(text(alloc, key)?, Value::Null)?;
     let value = Value::Map(map);
@@ -106,7 +106,7 @@ fn is_token_of(rt: &impl Abort, alloc: Global, key: &str, token: &str) -> Done {
 }
 
 #[test]
-fn unescapes_once(rt: HostRuntime) -> Done {
+fn unescapes_once(rt: HostRuntime) -> Verdict {
     let alloc = rt.alloc();
     is_token_of(&rt, alloc, "~1", "~01")?;
     is_token_of(&rt, alloc, "~0", "~00")?;
@@ -116,7 +116,7 @@ fn unescapes_once(rt: HostRuntime) -> Done {
 }
 
 #[test]
-fn passes_no_tag_and_no_other_key(rt: HostRuntime) -> Done {
+fn passes_no_tag_and_no_other_key(rt: HostRuntime) -> Verdict {
     let alloc = rt.alloc();
     let mut map = Map::new(alloc);
     map.insert(Value::Integer(0), Value::Null)?;

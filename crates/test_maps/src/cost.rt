@@ -4,7 +4,7 @@ use cbor_value::{Map, Value};
 use std::alloc::Global;
 use std::process::Abort;
 use std::test::Fail;
-use test_checks::Done;
+use test_checks::Verdict;
 
 const MANY: u32 = 262_144;
 
@@ -28,14 +28,14 @@ fn takes_each_to_itself(rt: &impl Abort, map: &Map) {
 }
 
 #[test]
-fn sorts_many_pairs_once(rt: HostRuntime) -> Done {
+fn sorts_many_pairs_once(rt: HostRuntime) -> Verdict {
     let map = Map::from_pairs(scattered(rt.alloc())?)?;
     takes_each_to_itself(&rt, &map);
     Ok(())
 }
 
 /// Puts the keys from 0 on in, each to itself.
-fn put_each(map: &mut Map) -> Done {
+fn put_each(map: &mut Map) -> Verdict {
     for key in 0..MANY {
         map.insert(Value::from(key), Value::from(key))?;
     }
@@ -44,7 +44,7 @@ fn put_each(map: &mut Map) -> Done {
 
 // A new key stands last, and the last is taken out, so that no pair moves.
 #[test]
-fn finds_the_place_of_a_key_by_halves(rt: HostRuntime) -> Done {
+fn finds_the_place_of_a_key_by_halves(rt: HostRuntime) -> Verdict {
     let mut map = Map::new(rt.alloc());
     put_each(&mut map)?;
     put_each(&mut map)?;
@@ -59,7 +59,7 @@ fn finds_the_place_of_a_key_by_halves(rt: HostRuntime) -> Done {
 // A text stands behind all integers (RFC 8949, section 4.2.1): a search from the front would meet
 // all of them, and one from the back most of them for most integers.
 #[test]
-fn finds_numbers_and_texts_by_halves(rt: HostRuntime) -> Done {
+fn finds_numbers_and_texts_by_halves(rt: HostRuntime) -> Verdict {
     let alloc = rt.alloc();
     let mut map = Map::new(alloc);
     put_each(&mut map)?;

@@ -10,7 +10,7 @@ use cbor_value::{Map, Value};
 use std::alloc::Global;
 use std::process::Abort;
 use std::test::Fail;
-use test_checks::Done;
+use test_checks::Verdict;
 
 /// `{1: 10, 2: 20, -1: 30, "a": 40}`
 fn four(alloc: Global) -> Result<Map, Fail> {
@@ -32,7 +32,7 @@ fn lists(rt: &impl Abort, map: &Map, wanted: [i128; 4]) {
 }
 
 /// The value is the first number, and from now on the second.
-fn changes(rt: &impl Abort, value: Option<&mut Value>, before: i128, after: i128) -> Done {
+fn changes(rt: &impl Abort, value: Option<&mut Value>, before: i128, after: i128) -> Verdict {
     let value = value.ok_or("no value")?;
     assert_eq!(rt; *value, Value::Integer(before));
     *value = Value::Integer(after);
@@ -54,7 +54,7 @@ fn replace(map: &mut Map, key: &Value, value: Value) -> bool
 }
 
 #[test]
-fn replaces_one_value(rt: HostRuntime) -> Done {
+fn replaces_one_value(rt: HostRuntime) -> Verdict {
     let mut map = four(rt.alloc())?;
     assert!(rt; replace(&mut map, &Value::Integer(1), Value::Integer(11)));
     lists(&rt, &map, [11, 20, 30, 40]);
@@ -64,7 +64,7 @@ fn replaces_one_value(rt: HostRuntime) -> Done {
 }
 
 #[test]
-fn changes_one_value(rt: HostRuntime) -> Done {
+fn changes_one_value(rt: HostRuntime) -> Verdict {
     let mut map = four(rt.alloc())?;
     changes(&rt, map.get_mut(&Value::Integer(2)), 20, 21)?;
     lists(&rt, &map, [10, 21, 30, 40]);
@@ -76,7 +76,7 @@ fn changes_one_value(rt: HostRuntime) -> Done {
 }
 
 #[test]
-fn lends_no_value_of_a_key_that_is_missing(rt: HostRuntime) -> Done {
+fn lends_no_value_of_a_key_that_is_missing(rt: HostRuntime) -> Verdict {
     let mut map = four(rt.alloc())?;
     assert!(rt; map.get_mut(&Value::Null).is_none());
     assert!(rt; map.get_integer_mut(3).is_none());

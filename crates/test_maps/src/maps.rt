@@ -5,7 +5,7 @@ use cbor_value::{Map, Value};
 use std::alloc::{AllocError, Global};
 use std::process::Abort;
 use std::test::Fail;
-use test_checks::Done;
+use test_checks::Verdict;
 
 // The checks below promise nothing, so that a test of many rows carries no facts from one to the
 // next.
@@ -30,7 +30,7 @@ fn inserts(
     key: Value,
     value: Value,
     before: Option<Value>,
-) -> Done {
+) -> Verdict {
     assert_eq!(rt; map.insert(key, value)?, before);
     Ok(())
 }
@@ -41,7 +41,7 @@ fn removes(rt: &impl Abort, map: &mut Map, key: i128, before: Option<Value>) {
 }
 
 #[test]
-fn keeps_one_pair_of_a_key(rt: HostRuntime) -> Done {
+fn keeps_one_pair_of_a_key(rt: HostRuntime) -> Verdict {
     let alloc = rt.alloc();
     let mut map = Map::new(alloc);
     let one = Value::Integer(1);
@@ -70,7 +70,7 @@ fn counting(alloc: Global, n: u16) -> Result<Map, Fail> {
 }
 
 /// Each key of such a map is found by so many comparisons at most, and so is that a key is missing.
-fn searches_by(rt: &impl Abort, alloc: Global, n: u16, most: u32) -> Done {
+fn searches_by(rt: &impl Abort, alloc: Global, n: u16, most: u32) -> Verdict {
     let map = counting(alloc, n)?;
     for key in 0..n {
         let wanted = Value::from(key);
@@ -85,7 +85,7 @@ fn searches_by(rt: &impl Abort, alloc: Global, n: u16, most: u32) -> Done {
 }
 
 #[test]
-fn compares_no_key_of_an_empty_map(rt: HostRuntime) -> Done {
+fn compares_no_key_of_an_empty_map(rt: HostRuntime) -> Verdict {
     let map = Map::new(rt.alloc());
     let (value, count) = map.get_counted(&Value::Null);
     assert_eq!(rt; value, None);
@@ -94,27 +94,27 @@ fn compares_no_key_of_an_empty_map(rt: HostRuntime) -> Done {
 }
 
 #[test]
-fn compares_1_of_1_key(rt: HostRuntime) -> Done {
+fn compares_1_of_1_key(rt: HostRuntime) -> Verdict {
     searches_by(&rt, rt.alloc(), 1, 1)
 }
 
 #[test]
-fn compares_3_of_7_keys(rt: HostRuntime) -> Done {
+fn compares_3_of_7_keys(rt: HostRuntime) -> Verdict {
     searches_by(&rt, rt.alloc(), 7, 3)
 }
 
 #[test]
-fn compares_4_of_8_keys(rt: HostRuntime) -> Done {
+fn compares_4_of_8_keys(rt: HostRuntime) -> Verdict {
     searches_by(&rt, rt.alloc(), 8, 4)
 }
 
 #[test]
-fn compares_10_of_1000_keys(rt: HostRuntime) -> Done {
+fn compares_10_of_1000_keys(rt: HostRuntime) -> Verdict {
     searches_by(&rt, rt.alloc(), 1000, 10)
 }
 
 #[test]
-fn counts_the_keys_that_it_compares(rt: HostRuntime) -> Done {
+fn counts_the_keys_that_it_compares(rt: HostRuntime) -> Verdict {
     let map = counting(rt.alloc(), 7)?;
     let (_, count) = map.get_counted(&Value::Integer(3));
     assert_eq!(rt; count, 1);
@@ -135,7 +135,12 @@ fn pairs_of(alloc: Global, numbers: &[(i128, i128)]) -> Result<Vec<(Value, Value
 }
 
 /// The map of pairs of numbers lists these pairs.
-fn makes(rt: &impl Abort, alloc: Global, given: &[(i128, i128)], listed: &[(i128, i128)]) -> Done {
+fn makes(
+    rt: &impl Abort,
+    alloc: Global,
+    given: &[(i128, i128)],
+    listed: &[(i128, i128)],
+) -> Verdict {
     let map = Map::from_pairs(pairs_of(alloc, given)?)?;
     let wanted = pairs_of(alloc, listed)?;
     assert_eq!(rt; map.iter().as_slice(), wanted.as_slice());
@@ -143,17 +148,17 @@ fn makes(rt: &impl Abort, alloc: Global, given: &[(i128, i128)], listed: &[(i128
 }
 
 #[test]
-fn makes_a_map_of_no_pairs(rt: HostRuntime) -> Done {
+fn makes_a_map_of_no_pairs(rt: HostRuntime) -> Verdict {
     makes(&rt, rt.alloc(), &[], &[])
 }
 
 #[test]
-fn makes_a_map_of_one_pair(rt: HostRuntime) -> Done {
+fn makes_a_map_of_one_pair(rt: HostRuntime) -> Verdict {
     makes(&rt, rt.alloc(), &[(5, 1)], &[(5, 1)])
 }
 
 #[test]
-fn makes_a_map_of_ascending_keys(rt: HostRuntime) -> Done {
+fn makes_a_map_of_ascending_keys(rt: HostRuntime) -> Verdict {
     makes(
         &rt,
         rt.alloc(),
@@ -163,7 +168,7 @@ fn makes_a_map_of_ascending_keys(rt: HostRuntime) -> Done {
 }
 
 #[test]
-fn makes_a_map_of_descending_keys(rt: HostRuntime) -> Done {
+fn makes_a_map_of_descending_keys(rt: HostRuntime) -> Verdict {
     makes(
         &rt,
         rt.alloc(),
@@ -173,7 +178,7 @@ fn makes_a_map_of_descending_keys(rt: HostRuntime) -> Done {
 }
 
 #[test]
-fn keeps_the_last_of_all_equal_keys(rt: HostRuntime) -> Done {
+fn keeps_the_last_of_all_equal_keys(rt: HostRuntime) -> Verdict {
     makes(
         &rt,
         rt.alloc(),
@@ -183,7 +188,7 @@ fn keeps_the_last_of_all_equal_keys(rt: HostRuntime) -> Done {
 }
 
 #[test]
-fn keeps_the_last_of_equal_keys_far_apart(rt: HostRuntime) -> Done {
+fn keeps_the_last_of_equal_keys_far_apart(rt: HostRuntime) -> Verdict {
     let given = [
         (9, 0),
         (1, 1),
@@ -208,7 +213,7 @@ fn reports_that_a_map_has_no_ends(rt: HostRuntime) {
 }
 
 #[test]
-fn reports_the_ends_of_a_map(rt: HostRuntime) -> Done {
+fn reports_the_ends_of_a_map(rt: HostRuntime) -> Verdict {
     let map = counting(rt.alloc(), 3)?;
     takes_to(&rt, &map, 2, Some(&Value::Integer(2)));
     takes_to(&rt, &map, 3, None);
@@ -219,7 +224,7 @@ fn reports_the_ends_of_a_map(rt: HostRuntime) -> Done {
 }
 
 /// The pair takes this number to itself.
-fn is_pair(rt: &impl Abort, pair: Option<(&Value, &Value)>, want: i128) -> Done {
+fn is_pair(rt: &impl Abort, pair: Option<(&Value, &Value)>, want: i128) -> Verdict {
     let (key, value) = pair.ok_or("no pair")?;
     assert_eq!(rt; *key, Value::Integer(want));
     assert_eq!(rt; *value, Value::Integer(want));
@@ -227,7 +232,7 @@ fn is_pair(rt: &impl Abort, pair: Option<(&Value, &Value)>, want: i128) -> Done 
 }
 
 /// Inserts a key. Where the allocation fails, the map is as it was.
-fn insert_or_keep(rt: &impl Abort, alloc: Global, map: &mut Map, key: Value) -> Done {
+fn insert_or_keep(rt: &impl Abort, alloc: Global, map: &mut Map, key: Value) -> Verdict {
     let before = Value::Map(map.clone(alloc)?);
     match map.insert(key, Value::Null) {
         Ok(_) => Ok(()),
@@ -240,7 +245,7 @@ fn insert_or_keep(rt: &impl Abort, alloc: Global, map: &mut Map, key: Value) -> 
 }
 
 #[test]
-fn keeps_a_map_that_cannot_grow(rt: HostRuntime) -> Done {
+fn keeps_a_map_that_cannot_grow(rt: HostRuntime) -> Verdict {
     let mut map = Map::new(rt.alloc());
     for key in 0..5u8 {
         insert_or_keep(&rt, rt.alloc(), &mut map, Value::from(key))?;
@@ -250,7 +255,7 @@ fn keeps_a_map_that_cannot_grow(rt: HostRuntime) -> Done {
 }
 
 #[test]
-fn iterates_in_key_order(rt: HostRuntime) -> Done {
+fn iterates_in_key_order(rt: HostRuntime) -> Verdict {
     let alloc = rt.alloc();
     let mut map = Map::new(alloc);
     put(&mut map, pairs_of(alloc, &[(2, 0), (1, 1)])?)?;
@@ -265,7 +270,7 @@ fn iterates_in_key_order(rt: HostRuntime) -> Done {
 }
 
 /// Puts the pairs into the map, one after the other.
-fn put(map: &mut Map, pairs: Vec<(Value, Value)>) -> Done {
+fn put(map: &mut Map, pairs: Vec<(Value, Value)>) -> Verdict {
     for (key, value) in pairs {
         map.insert(key, value)?;
     }
@@ -273,7 +278,7 @@ fn put(map: &mut Map, pairs: Vec<(Value, Value)>) -> Done {
 }
 
 /// The map of the test above lists its pairs so.
-fn lists_in_order(rt: &impl Abort, alloc: Global, map: &Map) -> Done {
+fn lists_in_order(rt: &impl Abort, alloc: Global, map: &Map) -> Verdict {
     let mut wanted = pairs_of(alloc, &[(1, 1), (2, 0), (10, 4), (-1, 3)])?;
     wanted.push((text(alloc, "z")?, Value::Integer(2)))?;
     assert_eq!(rt; map.iter().as_slice(), wanted.as_slice());
@@ -281,7 +286,7 @@ fn lists_in_order(rt: &impl Abort, alloc: Global, map: &Map) -> Done {
 }
 
 #[test]
-fn copies_maps(rt: HostRuntime) -> Done {
+fn copies_maps(rt: HostRuntime) -> Verdict {
     let alloc = rt.alloc();
     let mut map = Map::new(alloc);
     let list = vec![in alloc; Value::Integer(-7), Value::Null]?;

@@ -5,10 +5,10 @@ use cbor_pushed::PushedItems;
 use std::alloc::Global;
 use std::process::Abort;
 use std::test::Fail;
-use test_checks::{Done, is_refused};
+use test_checks::{Verdict, is_refused};
 
 /// No item is whole.
-pub fn waits(items: &mut PushedItems) -> Done {
+pub fn waits(items: &mut PushedItems) -> Verdict {
     match items.item_len() {
         Ok(None) => Ok(()),
         Ok(Some(_)) => Err(Fail::from("an item is whole")),
@@ -17,7 +17,7 @@ pub fn waits(items: &mut PushedItems) -> Done {
 }
 
 /// An item of so many bytes is at the front; they are taken.
-pub fn gives(rt: &impl Abort, items: &mut PushedItems, want: &[u8]) -> Done {
+pub fn gives(rt: &impl Abort, items: &mut PushedItems, want: &[u8]) -> Verdict {
     match items.item_len() {
         Ok(Some(n)) => {
             assert!(rt; &items.bytes()[..n] == want);
@@ -30,7 +30,7 @@ pub fn gives(rt: &impl Abort, items: &mut PushedItems, want: &[u8]) -> Done {
 }
 
 /// An item comes byte by byte: it is whole with its last byte, and not before.
-pub fn comes_singly(rt: &impl Abort, alloc: Global, item: &[u8]) -> Done {
+pub fn comes_singly(rt: &impl Abort, alloc: Global, item: &[u8]) -> Verdict {
     let mut items = PushedItems::new(alloc);
     for byte in item {
         waits(&mut items)?;
@@ -41,7 +41,7 @@ pub fn comes_singly(rt: &impl Abort, alloc: Global, item: &[u8]) -> Done {
 }
 
 /// It is whole, whatever follows it.
-pub fn is_followed(rt: &impl Abort, alloc: Global, item: &[u8]) -> Done {
+pub fn is_followed(rt: &impl Abort, alloc: Global, item: &[u8]) -> Verdict {
     let mut items = PushedItems::new(alloc);
     items.push(item)?;
     items.push(b"\x1c\xff")?;
@@ -49,7 +49,7 @@ pub fn is_followed(rt: &impl Abort, alloc: Global, item: &[u8]) -> Done {
 }
 
 /// Bytes come one by one, and are refused with the last, by these words; all of them stay.
-pub fn is_refused_singly(rt: &impl Abort, alloc: Global, bytes: &[u8], words: &str) -> Done {
+pub fn is_refused_singly(rt: &impl Abort, alloc: Global, bytes: &[u8], words: &str) -> Verdict {
     let mut items = PushedItems::new(alloc);
     for byte in bytes {
         waits(&mut items)?;

@@ -4,7 +4,7 @@ use crate::checks::{gives, waits};
 use cbor_pushed::PushedItems;
 use std::alloc::{AllocError, Global};
 use std::process::Abort;
-use test_checks::Done;
+use test_checks::Verdict;
 
 const MANY: usize = 20_000;
 
@@ -19,7 +19,7 @@ fn times(alloc: Global, front: &[u8], part: &[u8]) -> Result<Vec<u8>, AllocError
 }
 
 // An item comes byte by byte, and is asked for at each.
-fn comes(rt: &impl Abort, alloc: Global, item: &[u8]) -> Done {
+fn comes(rt: &impl Abort, alloc: Global, item: &[u8]) -> Verdict {
     let mut items = PushedItems::new(alloc);
     for byte in item {
         waits(&mut items)?;
@@ -30,7 +30,7 @@ fn comes(rt: &impl Abort, alloc: Global, item: &[u8]) -> Done {
 
 // 20,000 numbers in an array, of each length
 #[test]
-fn a_long_array_comes_byte_by_byte(rt: HostRuntime) -> Done {
+fn a_long_array_comes_byte_by_byte(rt: HostRuntime) -> Verdict {
     let counted = times(rt.alloc(), b"\x99\x4e\x20", b"\x05")?;
     comes(&rt, rt.alloc(), &counted)?;
     let mut endless = times(rt.alloc(), b"\x9f", b"\x05")?;
@@ -40,7 +40,7 @@ fn a_long_array_comes_byte_by_byte(rt: HostRuntime) -> Done {
 
 // 20,000 bytes of a string, and as many chunks
 #[test]
-fn a_long_string_comes_byte_by_byte(rt: HostRuntime) -> Done {
+fn a_long_string_comes_byte_by_byte(rt: HostRuntime) -> Verdict {
     let text = times(rt.alloc(), b"\x79\x4e\x20", b"a")?;
     comes(&rt, rt.alloc(), &text)?;
     let mut chunks = times(rt.alloc(), b"\x5f", b"\x41a")?;
@@ -50,7 +50,7 @@ fn a_long_string_comes_byte_by_byte(rt: HostRuntime) -> Done {
 
 // 20,000 arrays, each of an array of a map of a tag, within one
 #[test]
-fn nested_items_come_byte_by_byte(rt: HostRuntime) -> Done {
+fn nested_items_come_byte_by_byte(rt: HostRuntime) -> Verdict {
     let mut nested = times(rt.alloc(), b"\x9f", b"\x81\x81\xa1\x01\xc1\x02")?;
     nested.push(0xff)?;
     comes(&rt, rt.alloc(), &nested)
@@ -58,7 +58,7 @@ fn nested_items_come_byte_by_byte(rt: HostRuntime) -> Done {
 
 // 20,000 items in one piece
 #[test]
-fn many_items_come_in_one_piece(rt: HostRuntime) -> Done {
+fn many_items_come_in_one_piece(rt: HostRuntime) -> Verdict {
     let all = times(rt.alloc(), b"", b"\x18\x18\x81\x02")?;
     let mut items = PushedItems::new(rt.alloc());
     items.push(&all)?;
@@ -73,7 +73,7 @@ fn many_items_come_in_one_piece(rt: HostRuntime) -> Done {
 
 // Items are taken as they come, each with the beginning of the next: what was taken makes room.
 #[test]
-fn items_are_taken_as_they_come(rt: HostRuntime) -> Done {
+fn items_are_taken_as_they_come(rt: HostRuntime) -> Verdict {
     let mut items = PushedItems::new(rt.alloc());
     items.push(b"\x82")?;
     for _ in 0..MANY {

@@ -2,10 +2,10 @@
 
 use crate::checks::{comes_singly, gives, is_followed, waits};
 use cbor_pushed::PushedItems;
-use test_checks::Done;
+use test_checks::Verdict;
 
 #[test]
-fn numbers_and_simple_values_come_byte_by_byte(rt: HostRuntime) -> Done {
+fn numbers_and_simple_values_come_byte_by_byte(rt: HostRuntime) -> Verdict {
     let rows: [&[u8]; 16] = [
         b"\0".as_slice(),
         b"\x17".as_slice(),
@@ -32,7 +32,7 @@ fn numbers_and_simple_values_come_byte_by_byte(rt: HostRuntime) -> Done {
 }
 
 #[test]
-fn strings_and_tags_come_byte_by_byte(rt: HostRuntime) -> Done {
+fn strings_and_tags_come_byte_by_byte(rt: HostRuntime) -> Verdict {
     let rows: [&[u8]; 14] = [
         b"\x40".as_slice(),
         b"\x44\x01\x02\x03\x04".as_slice(),
@@ -57,7 +57,7 @@ fn strings_and_tags_come_byte_by_byte(rt: HostRuntime) -> Done {
 }
 
 #[test]
-fn arrays_and_maps_come_byte_by_byte(rt: HostRuntime) -> Done {
+fn arrays_and_maps_come_byte_by_byte(rt: HostRuntime) -> Verdict {
     let rows: [&[u8]; 15] = [
         b"\x80".as_slice(),
         b"\x83\x01\x02\x03".as_slice(),
@@ -84,7 +84,7 @@ fn arrays_and_maps_come_byte_by_byte(rt: HostRuntime) -> Done {
 
 // 1000, "IETF" in chunks and [1, 2], from one piece, and a fourth item that begins in it
 #[test]
-fn one_piece_has_several_items(rt: HostRuntime) -> Done {
+fn one_piece_has_several_items(rt: HostRuntime) -> Verdict {
     let mut items = PushedItems::new(rt.alloc());
     items.push(b"\x19\x03\xe8\x7f\x62IE\x62TF\xff\x82\x01\x02\xa1")?;
     gives(&rt, &mut items, b"\x19\x03\xe8")?;
@@ -102,7 +102,7 @@ fn one_piece_has_several_items(rt: HostRuntime) -> Done {
 
 // [1000, "IETF", h'0102'], cut within a head, a text, and a chunk and its head
 #[test]
-fn pieces_end_anywhere(rt: HostRuntime) -> Done {
+fn pieces_end_anywhere(rt: HostRuntime) -> Verdict {
     let mut items = PushedItems::new(rt.alloc());
     items.push(b"\x83\x19\x03")?;
     waits(&mut items)?;
@@ -128,13 +128,13 @@ fn pieces_end_anywhere(rt: HostRuntime) -> Done {
 
 // "ü", whose two bytes are in two chunks
 #[test]
-fn a_character_is_cut_by_chunks(rt: HostRuntime) -> Done {
+fn a_character_is_cut_by_chunks(rt: HostRuntime) -> Verdict {
     comes_singly(&rt, rt.alloc(), b"\x7f\x61\xc3\x61\xbc\xff")
 }
 
 // An item that is whole stays so until it is taken, and is found again.
 #[test]
-fn a_whole_item_waits(rt: HostRuntime) -> Done {
+fn a_whole_item_waits(rt: HostRuntime) -> Verdict {
     let mut items = PushedItems::new(rt.alloc());
     items.push(b"\x82\x01\x02")?;
     assert_eq!(rt; items.item_len()?, Some(3));
@@ -146,7 +146,7 @@ fn a_whole_item_waits(rt: HostRuntime) -> Done {
 
 // More is taken than there is.
 #[test]
-fn all_are_taken(rt: HostRuntime) -> Done {
+fn all_are_taken(rt: HostRuntime) -> Verdict {
     let mut items = PushedItems::new(rt.alloc());
     items.push(b"\x01\x82\x02")?;
     items.advance(9);

@@ -3,10 +3,10 @@
 use crate::checks::{gives, is_refused_singly, waits};
 use cbor_pushed::PushedItems;
 use std::alloc::AllocError;
-use test_checks::{Done, is_refused};
+use test_checks::{Verdict, is_refused};
 
 #[test]
-fn refuses_what_no_item_begins_with(rt: HostRuntime) -> Done {
+fn refuses_what_no_item_begins_with(rt: HostRuntime) -> Verdict {
     let rows: [(&[u8], &str); 14] = [
         (b"\xff".as_slice(), "unexpected code at offset 1"),
         (b"\x1c".as_slice(), "unassigned type at offset 1"),
@@ -41,7 +41,7 @@ fn arrays(alloc: std::alloc::Global, count: usize) -> Result<Vec<u8>, AllocError
 }
 
 #[test]
-fn nests_127_levels(rt: HostRuntime) -> Done {
+fn nests_127_levels(rt: HostRuntime) -> Verdict {
     let mut items = PushedItems::new(rt.alloc());
     let opened = arrays(rt.alloc(), 127)?;
     items.push(&opened)?;
@@ -53,7 +53,7 @@ fn nests_127_levels(rt: HostRuntime) -> Done {
 }
 
 #[test]
-fn refuses_more_levels(rt: HostRuntime) -> Done {
+fn refuses_more_levels(rt: HostRuntime) -> Verdict {
     let opened = arrays(rt.alloc(), 128)?;
     is_refused_singly(
         &rt,
@@ -65,7 +65,7 @@ fn refuses_more_levels(rt: HostRuntime) -> Done {
 
 // An item before what is refused is given, and the offset counts from behind it.
 #[test]
-fn refuses_behind_an_item(rt: HostRuntime) -> Done {
+fn refuses_behind_an_item(rt: HostRuntime) -> Verdict {
     let mut items = PushedItems::new(rt.alloc());
     items.push(b"\x82\x01\x02\x81\x1d")?;
     gives(&rt, &mut items, b"\x82\x01\x02")?;

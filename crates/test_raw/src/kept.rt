@@ -11,7 +11,7 @@ use cbor_value::raw_value::{RawSlice, RawValue};
 use std::alloc::Global;
 use std::collections::BTreeMap;
 use std::process::Abort;
-use test_checks::Done;
+use test_checks::Verdict;
 
 // Arrays, maps, tags, strings in chunks and numbers of every width, not one of them canonical but the
 // last (the examples of RFC 8949, Appendix A, with longer heads).
@@ -27,7 +27,7 @@ const ITEMS: [&[u8]; 8] = [
 ];
 
 /// The item is read as its bytes, borrowed and owned, of a slice and of a reader, and written as them.
-fn is_kept(rt: &impl Abort, alloc: Global, item: &[u8]) -> Done {
+fn is_kept(rt: &impl Abort, alloc: Global, item: &[u8]) -> Verdict {
     let borrowed: RawSlice = from_slice(alloc, item)?;
     assert!(rt; borrowed.as_bytes() == item);
     assert!(rt; to_vec(alloc, &borrowed)?.as_slice() == item);
@@ -42,7 +42,7 @@ fn is_kept(rt: &impl Abort, alloc: Global, item: &[u8]) -> Done {
 }
 
 #[test]
-fn keeps_the_bytes_of_an_item(rt: HostRuntime) -> Done {
+fn keeps_the_bytes_of_an_item(rt: HostRuntime) -> Verdict {
     let alloc = rt.alloc();
     for item in ITEMS {
         is_kept(&rt, alloc, item)?;
@@ -52,7 +52,7 @@ fn keeps_the_bytes_of_an_item(rt: HostRuntime) -> Done {
 
 // [1, [2, 3], "a"], whose numbers have longer heads
 #[test]
-fn keeps_parts_of_an_array(rt: HostRuntime) -> Done {
+fn keeps_parts_of_an_array(rt: HostRuntime) -> Verdict {
     let alloc = rt.alloc();
     let bytes = b"\x83\x18\x01\x82\x02\x19\0\x03\x61a";
     let parts: Vec<RawSlice> = from_slice(alloc, bytes)?;
@@ -68,7 +68,7 @@ fn keeps_parts_of_an_array(rt: HostRuntime) -> Done {
 
 // The same array, of a reader.
 #[test]
-fn keeps_parts_of_what_is_read(rt: HostRuntime) -> Done {
+fn keeps_parts_of_what_is_read(rt: HostRuntime) -> Verdict {
     let alloc = rt.alloc();
     let bytes: &[u8] = b"\x83\x18\x01\x82\x02\x19\0\x03\x61a";
     let (number, list, text): (u8, RawValue, String) = from_reader(alloc, bytes)?;
@@ -79,7 +79,7 @@ fn keeps_parts_of_what_is_read(rt: HostRuntime) -> Done {
 }
 
 #[test]
-fn keeps_the_values_of_a_map(rt: HostRuntime) -> Done {
+fn keeps_the_values_of_a_map(rt: HostRuntime) -> Verdict {
     let alloc = rt.alloc();
     let bytes = b"\xa2\x61a\x18\x01\x61b\x9f\xff";
     let map: BTreeMap<String, RawValue> = from_slice(alloc, bytes)?;
@@ -96,7 +96,7 @@ fn keeps_the_values_of_a_map(rt: HostRuntime) -> Done {
 
 // The item that follows is read next.
 #[test]
-fn goes_on_behind_the_item(rt: HostRuntime) -> Done {
+fn goes_on_behind_the_item(rt: HostRuntime) -> Verdict {
     let alloc = rt.alloc();
     let mut de = Deserializer::new(alloc, SliceRead::new(alloc, b"\xc1\x18\x01\x05"));
     let first = RawSlice::deserialize(&mut de)?;
@@ -108,7 +108,7 @@ fn goes_on_behind_the_item(rt: HostRuntime) -> Done {
 
 // A scratch that chunks fit, and bytes that may be rewritten: they come as they were.
 #[test]
-fn keeps_chunks_from_every_slice(rt: HostRuntime) -> Done {
+fn keeps_chunks_from_every_slice(rt: HostRuntime) -> Verdict {
     let alloc = rt.alloc();
     let mut bytes = *b"\x82\x5f\x41a\x41b\xff\x7f\x61c\xff";
     let mut scratch = [0; 2];
@@ -123,7 +123,7 @@ fn keeps_chunks_from_every_slice(rt: HostRuntime) -> Done {
 
 // What it stands for: {1: 2, 2: 1}, whose keys are in the other order.
 #[test]
-fn stands_for_its_value(rt: HostRuntime) -> Done {
+fn stands_for_its_value(rt: HostRuntime) -> Verdict {
     let alloc = rt.alloc();
     let raw: RawSlice = from_slice(alloc, b"\xa2\x02\x18\x01\x01\x02")?;
     assert!(rt; to_vec_canonical(alloc, &raw)?.as_slice() == b"\xa2\x01\x02\x02\x01".as_slice());

@@ -5,7 +5,7 @@ use cbor_de::{
 };
 use cbor_value::raw_value::{RawSlice, RawValue};
 use std::process::Abort;
-use test_checks::{Done, is_refused};
+use test_checks::{Verdict, is_refused};
 
 // The rows: bytes that encode no item, and how they are refused.
 const ROWS: [(&[u8], &str); 8] = [
@@ -20,7 +20,7 @@ const ROWS: [(&[u8], &str); 8] = [
 ];
 
 #[test]
-fn refuses_what_encodes_no_item(rt: HostRuntime) -> Done {
+fn refuses_what_encodes_no_item(rt: HostRuntime) -> Verdict {
     let alloc = rt.alloc();
     for (bytes, words) in ROWS {
         is_refused(from_slice::<RawSlice>(alloc, bytes), words)?;
@@ -31,7 +31,7 @@ fn refuses_what_encodes_no_item(rt: HostRuntime) -> Done {
 }
 
 #[test]
-fn refuses_what_the_settings_refuse(rt: HostRuntime) -> Done {
+fn refuses_what_the_settings_refuse(rt: HostRuntime) -> Verdict {
     let alloc = rt.alloc();
     let mut de = Deserializer::new(alloc, SliceRead::new(alloc, b"\x81\x81\0")).nesting_limit(1);
     is_refused(
@@ -60,7 +60,7 @@ fn refuses_what_the_settings_refuse(rt: HostRuntime) -> Done {
 
 // The same of a reader, behind an item of one byte.
 #[test]
-fn refuses_of_a_reader_what_the_settings_refuse(rt: HostRuntime) -> Done {
+fn refuses_of_a_reader_what_the_settings_refuse(rt: HostRuntime) -> Verdict {
     let alloc = rt.alloc();
     let deep: &[u8] = b"\x05\x81\x81\0";
     let mut de = Deserializer::new(alloc, IoRead::new(alloc, deep)).nesting_limit(1);
@@ -80,7 +80,7 @@ fn refuses_of_a_reader_what_the_settings_refuse(rt: HostRuntime) -> Done {
 
 // A reader lends nothing for the input's life: the item is passed over.
 #[test]
-fn refuses_what_is_not_lent(rt: HostRuntime) -> Done {
+fn refuses_what_is_not_lent(rt: HostRuntime) -> Verdict {
     let alloc = rt.alloc();
     let bytes: &[u8] = b"\x82\x01\x02\x05";
     let mut de = Deserializer::new(alloc, IoRead::new(alloc, bytes));

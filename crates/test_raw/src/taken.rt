@@ -6,7 +6,7 @@ use cbor_de::{Deserialize, Deserializer};
 use cbor_io::error::Result as Answer;
 use cbor_value::raw_value::RawValue;
 use std::alloc::Global;
-use test_checks::{Done, is_refused};
+use test_checks::{Verdict, is_refused};
 
 // What is taken of these bytes behind two items of one byte, and the offset behind it.
 fn third(alloc: Global, bytes: &[u8], levels: u8) -> Answer<(RawValue, usize)>
@@ -21,7 +21,7 @@ fn third(alloc: Global, bytes: &[u8], levels: u8) -> Answer<(RawValue, usize)>
 
 // The bytes that follow are left: the reader isn't asked for them.
 #[test]
-fn takes_the_next_item(rt: HostRuntime) -> Done {
+fn takes_the_next_item(rt: HostRuntime) -> Verdict {
     let alloc = rt.alloc();
     let rows: [&[u8]; 6] = [
         b"\x19\x03\xe8",
@@ -43,7 +43,7 @@ fn takes_the_next_item(rt: HostRuntime) -> Done {
 }
 
 #[test]
-fn refuses_bytes_that_no_item_begins_with(rt: HostRuntime) -> Done {
+fn refuses_bytes_that_no_item_begins_with(rt: HostRuntime) -> Verdict {
     let alloc = rt.alloc();
     let rows: [(&[u8], &str); 9] = [
         (b"", "EOF while parsing a value at offset 2"),
@@ -66,7 +66,7 @@ fn refuses_bytes_that_no_item_begins_with(rt: HostRuntime) -> Done {
 
 // As many levels as `nesting_limit` says, more than 127 too.
 #[test]
-fn takes_as_many_levels_as_are_left(rt: HostRuntime) -> Done {
+fn takes_as_many_levels_as_are_left(rt: HostRuntime) -> Verdict {
     let alloc = rt.alloc();
     let mut bytes = b"\0\0".to_vec(alloc)?;
     bytes.resize(256, 0x81)?;

@@ -4,10 +4,10 @@ use crate::checks::{ends_here, gives, refuses};
 use cbor_de::{Deserialize, Deserializer, IgnoredAny, SliceRead};
 use cbor_io::error::{Error, Result as Answer};
 use cbor_value::Value;
-use test_checks::{Done, is_refused};
+use test_checks::{Verdict, is_refused};
 
 #[test]
-fn reads_item_by_item(rt: HostRuntime) -> Done {
+fn reads_item_by_item(rt: HostRuntime) -> Verdict {
     let alloc = rt.alloc();
     let mut de = Deserializer::from_slice(alloc, b"\x82\x01\xf5");
     assert!(rt; two_items(&mut de)? == (Some(1), Some(true)));
@@ -24,7 +24,7 @@ fn two_items(de: &mut Deserializer<SliceRead<'_>>) -> Answer<(Option<u8>, Option
 }
 
 #[test]
-fn reports_how_many_items_are_left(rt: HostRuntime) -> Done {
+fn reports_how_many_items_are_left(rt: HostRuntime) -> Verdict {
     for (bytes, all, left) in [(&b"\x82\x01\xf5"[..], 2, 1), (b"\x81\x01", 1, 0)] {
         let mut de = Deserializer::from_slice(rt.alloc(), bytes);
         assert!(&rt; left_behind_one(&mut de)? == (Some(all), Some(left)));
@@ -41,7 +41,7 @@ fn left_behind_one(de: &mut Deserializer<SliceRead<'_>>) -> Answer<(Option<usize
 }
 
 #[test]
-fn leaves_an_array_for_an_error(rt: HostRuntime) -> Done {
+fn leaves_an_array_for_an_error(rt: HostRuntime) -> Verdict {
     let alloc = rt.alloc();
     let mut de = Deserializer::from_slice(alloc, b"\x82\x01\x81\x03");
     let items = de.array()?;
@@ -50,14 +50,14 @@ fn leaves_an_array_for_an_error(rt: HostRuntime) -> Done {
     gives(&rt, &mut de, 1u8)
 }
 
-fn gives_any(de: &mut Deserializer<SliceRead<'_>>) -> Done {
+fn gives_any(de: &mut Deserializer<SliceRead<'_>>) -> Verdict {
     let _any = <IgnoredAny as Deserialize<SliceRead<'_>>>::deserialize(de)?;
     Ok(())
 }
 
 // Each refusal leaves all levels for the next item.
 #[test]
-fn goes_on_behind_a_refusal(rt: HostRuntime) -> Done {
+fn goes_on_behind_a_refusal(rt: HostRuntime) -> Verdict {
     let alloc = rt.alloc();
     let mut bytes = [0x81; 256];
     bytes[255] = 0x00;
@@ -68,7 +68,7 @@ fn goes_on_behind_a_refusal(rt: HostRuntime) -> Done {
 }
 
 #[test]
-fn goes_on_behind_lists_that_are_refused(rt: HostRuntime) -> Done {
+fn goes_on_behind_lists_that_are_refused(rt: HostRuntime) -> Verdict {
     let mut bytes = [0x81; 131];
     bytes[..3].copy_from_slice(b"\x82\x01\xf4");
     bytes[130] = 0x00;

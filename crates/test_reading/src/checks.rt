@@ -3,14 +3,14 @@
 
 use cbor_de::{Deserialize, Deserializer, Offset, SliceRead, Source};
 use std::process::Abort;
-use test_checks::{Done, is_refused};
+use test_checks::{Verdict, is_refused};
 
 /// The next item is read so.
 pub fn gives<'a, T: Deserialize<'a, SliceRead<'a>> + PartialEq>(
     rt: &impl Abort,
     de: &mut Deserializer<SliceRead<'a>>,
     want: T,
-) -> Done {
+) -> Verdict {
     assert!(rt; T::deserialize(de)? == want);
     Ok(())
 }
@@ -20,7 +20,7 @@ pub fn refuses<'a, T: Deserialize<'a, SliceRead<'a>>>(
     rt: &impl Abort,
     de: &mut Deserializer<SliceRead<'a>>,
     words: &str,
-) -> Done {
+) -> Verdict {
     is_refused(T::deserialize(de), words)
 }
 
@@ -30,7 +30,7 @@ pub fn has_taken<R: Source + Offset>(rt: &impl Abort, de: &Deserializer<R>, want
 }
 
 /// Nothing follows.
-pub fn ends_here(de: &mut Deserializer<SliceRead<'_>>) -> Done {
+pub fn ends_here(de: &mut Deserializer<SliceRead<'_>>) -> Verdict {
     de.end()?;
     Ok(())
 }

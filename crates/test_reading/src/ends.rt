@@ -6,10 +6,10 @@ use cbor_io::error::Error;
 use std::alloc::Global;
 use std::process::Abort;
 use std::test::Fail;
-use test_checks::{Done, is_refused};
+use test_checks::{Verdict, is_refused};
 
 /// Each byte that is to come is reported with these words, and behind them is the end.
-fn ends<R: Source + Drop>(de: &mut Deserializer<R>, words: &[&str]) -> Done {
+fn ends<R: Source + Drop>(de: &mut Deserializer<R>, words: &[&str]) -> Verdict {
     for byte in words {
         is_refused(de.end(), *byte)?;
     }
@@ -17,7 +17,11 @@ fn ends<R: Source + Drop>(de: &mut Deserializer<R>, words: &[&str]) -> Done {
 }
 
 /// The same, and each byte is counted once it is taken.
-fn counts<R: Source + Offset + Drop>(rt: &impl Abort, de: Deserializer<R>, words: &[&str]) -> Done {
+fn counts<R: Source + Offset + Drop>(
+    rt: &impl Abort,
+    de: Deserializer<R>,
+    words: &[&str],
+) -> Verdict {
     let mut de = de;
     for (taken, byte) in words.iter().enumerate() {
         has_taken(rt, &de, taken);
@@ -27,7 +31,7 @@ fn counts<R: Source + Offset + Drop>(rt: &impl Abort, de: Deserializer<R>, words
     ends(&mut de, &[])
 }
 
-fn by_each(rt: &impl Abort, alloc: Global, bytes: &[u8], words: &[&str]) -> Done {
+fn by_each(rt: &impl Abort, alloc: Global, bytes: &[u8], words: &[&str]) -> Verdict {
     counts(rt, Deserializer::from_slice(alloc, bytes), words)?;
     let mut scratch = [0; 4];
     let fixed = Deserializer::from_slice_with_scratch(alloc, bytes, &mut scratch);
@@ -38,7 +42,7 @@ fn by_each(rt: &impl Abort, alloc: Global, bytes: &[u8], words: &[&str]) -> Done
 }
 
 #[test]
-fn reports_and_counts_the_bytes_before_the_end(rt: HostRuntime) -> Done {
+fn reports_and_counts_the_bytes_before_the_end(rt: HostRuntime) -> Verdict {
     let two: &[&str] = &["trailing data at offset 1", "trailing data at offset 2"];
     for (bytes, words) in [
         (&b""[..], &two[..0]),

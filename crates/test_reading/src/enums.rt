@@ -3,7 +3,7 @@
 use crate::checks::ends_here;
 use cbor_de::{Deserializer, SliceRead};
 use cbor_io::error::{Error, Result as Answer};
-use test_checks::{Done, is_refused};
+use test_checks::{Verdict, is_refused};
 
 const NAMES: &'static [&'static str] = &["Unit", "NewType"];
 
@@ -22,7 +22,7 @@ fn newtype(de: &mut Deserializer<SliceRead<'_>>) -> Answer<(usize, i32)> {
 }
 
 #[test]
-fn reports_the_variant(rt: HostRuntime) -> Done {
+fn reports_the_variant(rt: HostRuntime) -> Verdict {
     let alloc = rt.alloc();
     let mut de = Deserializer::from_slice(alloc, b"\x64Unit\x82\x01\x0a");
     assert!(rt; unit(&mut de)? == 0);
@@ -31,7 +31,7 @@ fn reports_the_variant(rt: HostRuntime) -> Done {
 }
 
 #[test]
-fn leaves_an_enum_for_an_error(rt: HostRuntime) -> Done {
+fn leaves_an_enum_for_an_error(rt: HostRuntime) -> Verdict {
     let alloc = rt.alloc();
     let mut de = Deserializer::from_slice(alloc, b"\xc1\x82\x01\x18\x2a");
     let access = de.variant(&["Empty", "Number"])?;

@@ -4,10 +4,10 @@ use crate::checks::{ends_here, gives};
 use cbor_de::{Deserializer, SliceRead};
 use cbor_io::error::{Error, Result as Answer};
 use std::test::Fail;
-use test_checks::{Done, is_refused};
+use test_checks::{Verdict, is_refused};
 
 #[test]
-fn reads_pair_by_pair(rt: HostRuntime) -> Done {
+fn reads_pair_by_pair(rt: HostRuntime) -> Verdict {
     let alloc = rt.alloc();
     let mut de = Deserializer::from_slice(alloc, b"\xa2\x01\xf5\x61\x61\x02");
     assert!(rt; two_pairs(&mut de)? == (1, true, "a", 2));
@@ -30,7 +30,7 @@ fn two_pairs<'a>(de: &mut Deserializer<SliceRead<'a>>) -> Result<(u8, bool, &'a 
 }
 
 #[test]
-fn reports_how_many_pairs_are_left(rt: HostRuntime) -> Done {
+fn reports_how_many_pairs_are_left(rt: HostRuntime) -> Verdict {
     for (bytes, all, left) in [
         (&b"\xa2\x01\xf5\x61\x61\x02"[..], 2, 1),
         (b"\xa1\x01\xf5", 1, 0),
@@ -52,7 +52,7 @@ fn left_behind_a_key(
 }
 
 #[test]
-fn refuses_pairs_that_are_left(rt: HostRuntime) -> Done {
+fn refuses_pairs_that_are_left(rt: HostRuntime) -> Verdict {
     let alloc = rt.alloc();
     for (bytes, want) in [
         (&b"\xa1\x01\x02"[..], "trailing data at offset 1"),
@@ -67,7 +67,7 @@ fn refuses_pairs_that_are_left(rt: HostRuntime) -> Done {
 }
 
 #[test]
-fn leaves_a_map_for_an_error(rt: HostRuntime) -> Done {
+fn leaves_a_map_for_an_error(rt: HostRuntime) -> Verdict {
     let alloc = rt.alloc();
     let mut de = Deserializer::from_slice(alloc, b"\xa1\x01\x02");
     let pairs = de.map()?;

@@ -3,7 +3,7 @@
 use cbor_de::from_reader;
 use cbor_value::Value;
 use std::io;
-use test_checks::{Done, is_refused};
+use test_checks::{Verdict, is_refused};
 
 /// Gives this byte, and never ends.
 #[derive(Drop)]
@@ -17,7 +17,7 @@ impl io::Read for Endless {
 }
 
 #[test]
-fn stops_where_a_reader_has_no_end(rt: HostRuntime) -> Done {
+fn stops_where_a_reader_has_no_end(rt: HostRuntime) -> Verdict {
     let alloc = rt.alloc();
     let deep = from_reader::<Value, _>(alloc, Endless(0x81));
     is_refused(deep, "recursion limit exceeded at offset 128")?;

@@ -11,13 +11,13 @@ use std::io;
 use std::io::ErrorKind;
 use std::process::Abort;
 use std::test::Fail;
-use test_checks::{Done, is_refused};
+use test_checks::{Verdict, is_refused};
 
 /// A refusal with these words is next.
 fn refuses<'a, R: Read<'a> + Drop, T: Deserialize<'a, R>>(
     stream: &mut StreamDeserializer<'a, R, T>,
     words: &str,
-) -> Done {
+) -> Verdict {
     is_refused(stream.next().ok_or("none")?, words)
 }
 
@@ -66,7 +66,7 @@ fn plays<'a, R: Read<'a> + Offset + Drop>(
     rt: &impl Abort,
     stream: StreamDeserializer<'a, R, Value>,
     script: &[Step],
-) -> Done {
+) -> Verdict {
     let mut stream = stream;
     for step in script {
         match *step {
@@ -88,7 +88,7 @@ fn gives_arrays<'a, R: Read<'a> + Drop>(
     rt: &impl Abort,
     stream: &mut StreamDeserializer<'a, R, Value>,
     count: u8,
-) -> Done {
+) -> Verdict {
     for _ in 0..count {
         let Value::Array(items) = stream.next().ok_or("none")?? else {
             return Err(Fail::from("no array"));
@@ -100,7 +100,7 @@ fn gives_arrays<'a, R: Read<'a> + Drop>(
 }
 
 /// The next answer is the one of this step.
-fn is_so(rt: &impl Abort, answer: Option<Answer<Value>>, step: Step) -> Done {
+fn is_so(rt: &impl Abort, answer: Option<Answer<Value>>, step: Step) -> Verdict {
     match (answer, step) {
         (Some(Err(e)), Step::Any) => is_no_memory(e),
         (Some(Err(e)), _) => Err(Fail::from(e)),
@@ -111,12 +111,12 @@ fn is_so(rt: &impl Abort, answer: Option<Answer<Value>>, step: Step) -> Done {
     }
 }
 
-fn is(rt: &impl Abort, so: bool) -> Done {
+fn is(rt: &impl Abort, so: bool) -> Verdict {
     assert!(rt; so);
     Ok(())
 }
 
-fn is_no_memory(e: Error) -> Done {
+fn is_no_memory(e: Error) -> Verdict {
     if e.is_memory() {
         return Err(Fail::from(e));
     }
@@ -124,7 +124,7 @@ fn is_no_memory(e: Error) -> Done {
 }
 
 /// By each source that counts its bytes. The scratch has so many, 32 at most.
-fn by_each(rt: &impl Abort, alloc: Global, bytes: &[u8], room: usize, script: &[Step]) -> Done {
+fn by_each(rt: &impl Abort, alloc: Global, bytes: &[u8], room: usize, script: &[Step]) -> Verdict {
     plays(
         rt,
         Deserializer::from_slice(alloc, bytes).into_iter(),
@@ -150,7 +150,7 @@ fn arrays(alloc: Global) -> Result<Vec<u8>, Fail> {
 
 // A hundred and twenty-eight times [0], and then nothing for good.
 #[test]
-fn loses_no_level(rt: HostRuntime) -> Done {
+fn loses_no_level(rt: HostRuntime) -> Verdict {
     let alloc = rt.alloc();
     let mut bytes = arrays(alloc)?;
     let script = [Step::Arrays(128), Step::End, Step::End];
@@ -163,7 +163,7 @@ fn loses_no_level(rt: HostRuntime) -> Done {
 }
 
 /// So many bytes were taken after each answer, and nothing follows.
-fn takes(rt: &impl Abort, alloc: Global, bytes: &[u8], wants: &[usize]) -> Done {
+fn takes(rt: &impl Abort, alloc: Global, bytes: &[u8], wants: &[usize]) -> Verdict {
     let mut script = Vec::from_slice(alloc, &[Step::Taken(0)])?;
     for want in wants {
         script.extend_from_slice(&[Step::Any, Step::Taken(*want)])?;
@@ -173,7 +173,7 @@ fn takes(rt: &impl Abort, alloc: Global, bytes: &[u8], wants: &[usize]) -> Done 
 }
 
 #[test]
-fn counts_behind_each_answer(rt: HostRuntime) -> Done {
+fn counts_behind_each_answer(rt: HostRuntime) -> Verdict {
     for (bytes, wants) in [
         (&b""[..], &[0, 0][..]),
         (b"\x01\x02\xff\x03", &[1, 2, 3, 3]),
@@ -192,7 +192,7 @@ fn counts_behind_each_answer(rt: HostRuntime) -> Done {
 
 // A number, and then a text that is cut off, of which a part may be taken.
 #[test]
-fn counts_of_an_item_that_is_cut_off(rt: HostRuntime) -> Done {
+fn counts_of_an_item_that_is_cut_off(rt: HostRuntime) -> Verdict {
     let script = [
         Step::Number(1),
         Step::Taken(1),
@@ -204,7 +204,7 @@ fn counts_of_an_item_that_is_cut_off(rt: HostRuntime) -> Done {
 }
 
 #[test]
-fn counts_the_bytes_taken(rt: HostRuntime) -> Done {
+fn counts_the_bytes_taken(rt: HostRuntime) -> Verdict {
     let script = [Step::Taken(0), Step::Text("foobar"), Step::Taken(7)];
     by_each(&rt, rt.alloc(), b"\x66foobar\x66foobar", 4, &script)
 }
@@ -212,7 +212,7 @@ fn counts_the_bytes_taken(rt: HostRuntime) -> Done {
 // ---- streams of other types
 
 #[test]
-fn gives_texts_that_the_slice_lends(rt: HostRuntime) -> Done {
+fn gives_texts_that_the_slice_lends(rt: HostRuntime) -> Verdict {
     let alloc = rt.alloc();
     let source = SliceRead::new(alloc, b"\x61a\x61b\x05\x61c");
     let mut stream = StreamDeserializer::<SliceRead, &str>::new(alloc, source);
@@ -226,7 +226,7 @@ fn gives_texts_that_the_slice_lends(rt: HostRuntime) -> Done {
 }
 
 #[test]
-fn goes_on_behind_an_item(rt: HostRuntime) -> Done {
+fn goes_on_behind_an_item(rt: HostRuntime) -> Verdict {
     let alloc = rt.alloc();
     let mut de = Deserializer::from_slice(alloc, b"\xf5\x18\x2a\x07");
     assert!(rt; bool::deserialize(&mut de)?);
@@ -249,7 +249,7 @@ fn numbers(alloc: Global, bytes: &[u8]) -> Answer<Vec<u8>> {
 }
 
 #[test]
-fn reads_all_items(rt: HostRuntime) -> Done {
+fn reads_all_items(rt: HostRuntime) -> Verdict {
     let alloc = rt.alloc();
     assert!(rt; numbers(alloc, b"\x01\x18\x2a")?.as_slice() == [1, 42].as_slice());
     let mut sum = 0u64;
@@ -264,7 +264,7 @@ fn reads_all_items(rt: HostRuntime) -> Done {
 
 // The first refusal is the answer, as it is of a stream; and nothing is no item.
 #[test]
-fn reads_all_items_or_none(rt: HostRuntime) -> Done {
+fn reads_all_items_or_none(rt: HostRuntime) -> Verdict {
     let alloc = rt.alloc();
     assert!(rt; numbers(alloc, b"")?.is_empty());
     for (bytes, words) in [
@@ -298,7 +298,7 @@ impl io::Read for Failing<'_> {
 // What came whole is given, before the byte after it is asked for; a fault between items and one
 // within an item end the stream.
 #[test]
-fn gives_what_comes_before_a_fault(rt: HostRuntime) -> Done {
+fn gives_what_comes_before_a_fault(rt: HostRuntime) -> Verdict {
     for (bytes, items) in [
         (&b"\x01\x18\x2a"[..], &[(1, 1), (42, 3)][..]),
         (b"\x01\x18", &[(1, 1)]),
@@ -318,7 +318,7 @@ fn gives_what_comes_before_a_fault(rt: HostRuntime) -> Done {
 
 // What reads is printed as where it stands, with no byte of its input.
 #[test]
-fn prints_no_bytes(rt: HostRuntime) -> Done {
+fn prints_no_bytes(rt: HostRuntime) -> Verdict {
     let alloc = rt.alloc();
     let mut de = Deserializer::from_slice(alloc, b"\xc1\x05\x06").nesting_limit(3);
     de.read_tag()?;

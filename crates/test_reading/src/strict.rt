@@ -3,14 +3,14 @@
 use cbor_io::error::Result as Answer;
 use cbor_strict::from_slice_canonical_as;
 use std::alloc::Global;
-use test_checks::{Done, is_refused};
+use test_checks::{Verdict, is_refused};
 
 fn number(alloc: Global, bytes: &[u8]) -> Answer<u8> {
     from_slice_canonical_as(alloc, bytes)
 }
 
 #[test]
-fn reads_types_from_canonical_spellings(rt: HostRuntime) -> Done {
+fn reads_types_from_canonical_spellings(rt: HostRuntime) -> Verdict {
     let alloc = rt.alloc();
     assert!(rt; number(alloc, b"\x18\x2a")? == 42);
     let bytes = b"\x63CID";
@@ -23,7 +23,7 @@ fn reads_types_from_canonical_spellings(rt: HostRuntime) -> Done {
 
 // 23 in a longer head, 300, 23 in a longer head before another byte, and 23 before undefined.
 #[test]
-fn refuses_types_by_the_first_departure(rt: HostRuntime) -> Done {
+fn refuses_types_by_the_first_departure(rt: HostRuntime) -> Verdict {
     for (bytes, words) in [
         (&b"\x18\x17"[..], "not canonical at offset 2"),
         (b"\x19\x01\x2c", "integer out of range: expected u8"),

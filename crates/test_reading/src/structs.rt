@@ -3,10 +3,10 @@
 use crate::checks::ends_here;
 use cbor_de::{Deserializer, Field};
 use cbor_io::error::Result as Answer;
-use test_checks::{Done, is_refused};
+use test_checks::{Verdict, is_refused};
 
 #[test]
-fn reads_field_by_field(rt: HostRuntime) -> Done {
+fn reads_field_by_field(rt: HostRuntime) -> Verdict {
     let mut de = Deserializer::from_slice(rt.alloc(), b"\xa2\x61b\xf5\x00\x0a");
     let mut fields = de.structure(&["a", "b"])?;
     assert!(rt; fields.size_hint() == Some(2));
@@ -20,7 +20,7 @@ fn reads_field_by_field(rt: HostRuntime) -> Done {
 }
 
 #[test]
-fn leaves_a_struct_for_an_error(rt: HostRuntime) -> Done {
+fn leaves_a_struct_for_an_error(rt: HostRuntime) -> Verdict {
     let mut de = Deserializer::from_slice(rt.alloc(), b"\xa1\x00\x01");
     let fields = de.structure(&["a"])?;
     let e = fields.duplicate("a");
@@ -29,7 +29,7 @@ fn leaves_a_struct_for_an_error(rt: HostRuntime) -> Done {
 }
 
 #[test]
-fn ends_no_struct_before_its_fields(rt: HostRuntime) -> Done {
+fn ends_no_struct_before_its_fields(rt: HostRuntime) -> Verdict {
     let mut de = Deserializer::from_slice(rt.alloc(), b"\xa1\x00\x01");
     let fields = de.structure(&["a"])?;
     is_refused(fields.end(), "trailing data at offset 1")?;
@@ -38,7 +38,7 @@ fn ends_no_struct_before_its_fields(rt: HostRuntime) -> Done {
 
 // A slot that is full is left as it is, and one that is empty is asked for in vain.
 #[test]
-fn reads_a_field_into_its_slot_once(rt: HostRuntime) -> Done {
+fn reads_a_field_into_its_slot_once(rt: HostRuntime) -> Verdict {
     let mut de = Deserializer::from_slice(rt.alloc(), b"\xa2\x61a\x05\x00\x06");
     let mut fields = de.structure(&["a", "b"])?;
     let mut a: Option<u8> = None;
@@ -52,7 +52,7 @@ fn reads_a_field_into_its_slot_once(rt: HostRuntime) -> Done {
 }
 
 #[test]
-fn asks_for_a_field(rt: HostRuntime) -> Done {
+fn asks_for_a_field(rt: HostRuntime) -> Verdict {
     let mut de = Deserializer::from_slice(rt.alloc(), b"\xa0");
     let mut fields = de.structure(&["a"])?;
     assert!(rt; fields.next_field()?.is_none());
@@ -63,7 +63,7 @@ fn asks_for_a_field(rt: HostRuntime) -> Done {
 }
 
 #[test]
-fn reads_floats_in_fields(rt: HostRuntime) -> Done {
+fn reads_floats_in_fields(rt: HostRuntime) -> Verdict {
     let bytes = b"\xa2\x61b\xfa\x47\xc3\x50\0\x61a\xfb\x3f\xf1\x99\x99\x99\x99\x99\x9a";
     let mut de = Deserializer::from_slice(rt.alloc(), bytes);
     let mut fields = de.structure(&["a", "b"])?;

@@ -3,10 +3,10 @@
 use crate::checks::{ends_here, gives, has_taken};
 use cbor_de::{Deserializer, SliceRead};
 use std::process::Abort;
-use test_checks::{Done, is_refused};
+use test_checks::{Verdict, is_refused};
 
 /// A tag of this number comes, and is entered; None where another item comes.
-fn enters(rt: &impl Abort, de: &mut Deserializer<SliceRead<'_>>, want: Option<u64>) -> Done {
+fn enters(rt: &impl Abort, de: &mut Deserializer<SliceRead<'_>>, want: Option<u64>) -> Verdict {
     assert!(rt; de.read_tag()? == want);
     Ok(())
 }
@@ -17,7 +17,7 @@ fn leaves(rt: &impl Abort, de: &mut Deserializer<SliceRead<'_>>) {
 }
 
 #[test]
-fn enters_and_leaves_tags(rt: HostRuntime) -> Done {
+fn enters_and_leaves_tags(rt: HostRuntime) -> Verdict {
     let mut de = Deserializer::from_slice(rt.alloc(), b"\xd8\x18\xc1\x05\x06");
     enters(&rt, &mut de, Some(24))?;
     enters(&rt, &mut de, Some(1))?;
@@ -32,7 +32,7 @@ fn enters_and_leaves_tags(rt: HostRuntime) -> Done {
 }
 
 #[test]
-fn takes_nothing_of_another_item(rt: HostRuntime) -> Done {
+fn takes_nothing_of_another_item(rt: HostRuntime) -> Verdict {
     let alloc = rt.alloc();
     for bytes in [&b"\xbf"[..], b"\xdc", b"\xdf", b"\xe0", b"\x06", b""] {
         let mut de = Deserializer::from_slice(alloc, bytes);
@@ -44,7 +44,7 @@ fn takes_nothing_of_another_item(rt: HostRuntime) -> Done {
 }
 
 #[test]
-fn refuses_a_head_cut_off(rt: HostRuntime) -> Done {
+fn refuses_a_head_cut_off(rt: HostRuntime) -> Verdict {
     let alloc = rt.alloc();
     let mut de = Deserializer::from_slice(alloc, b"\xd9\x01");
     let end = "EOF while parsing a value at offset 2";
@@ -52,7 +52,7 @@ fn refuses_a_head_cut_off(rt: HostRuntime) -> Done {
 }
 
 #[test]
-fn refuses_a_level_too_many(rt: HostRuntime) -> Done {
+fn refuses_a_level_too_many(rt: HostRuntime) -> Verdict {
     let alloc = rt.alloc();
     let deep = [0xc1; 128];
     let mut de = Deserializer::from_slice(alloc, &deep);

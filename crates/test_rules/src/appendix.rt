@@ -3,7 +3,7 @@
 use crate::checks::Verdict::{Departs, Keeps};
 use crate::checks::{Row, all_depart, all_keep, all_pass, judges};
 use cbor_rules::{Rule, Rules};
-use test_checks::Done;
+use test_checks::Verdict;
 
 // Those of definite lengths are encoded deterministically, undefined aside.
 const DETERMINISTIC: &[&[u8]] = &[
@@ -31,7 +31,7 @@ const DETERMINISTIC: &[&[u8]] = &[
 ];
 
 #[test]
-fn reads_deterministic_examples(rt: HostRuntime) -> Done {
+fn reads_deterministic_examples(rt: HostRuntime) -> Verdict {
     all_keep(rt.alloc(), Rules::DETERMINISTIC, DETERMINISTIC)?;
     all_keep(rt.alloc(), Rules::LENGTH_FIRST, DETERMINISTIC)?;
     all_keep(rt.alloc(), Rules::ANY, DETERMINISTIC)
@@ -88,7 +88,7 @@ const UNDEFINED: &[Row] = &[
 ];
 
 #[test]
-fn refuses_undefined(rt: HostRuntime) -> Done {
+fn refuses_undefined(rt: HostRuntime) -> Verdict {
     judges(&rt, rt.alloc(), UNDEFINED)
 }
 
@@ -103,7 +103,7 @@ const WIDE_FLOATS: &[(&[u8], u64)] = &[
 ];
 
 #[test]
-fn refuses_wide_floats(rt: HostRuntime) -> Done {
+fn refuses_wide_floats(rt: HostRuntime) -> Verdict {
     let rule = Rule::ShortestFloats;
     all_depart(&rt, rt.alloc(), Rules::DETERMINISTIC, rule, WIDE_FLOATS)?;
     all_depart(&rt, rt.alloc(), Rules::LENGTH_FIRST, rule, WIDE_FLOATS)?;
@@ -130,7 +130,7 @@ const OPEN: Rules = Rules {
 };
 
 #[test]
-fn refuses_indefinite_lengths(rt: HostRuntime) -> Done {
+fn refuses_indefinite_lengths(rt: HostRuntime) -> Verdict {
     let rule = Rule::DefiniteLengths;
     all_depart(&rt, rt.alloc(), Rules::DETERMINISTIC, rule, INDEFINITE)?;
     all_depart(&rt, rt.alloc(), Rules::CTAP2, rule, INDEFINITE)?;

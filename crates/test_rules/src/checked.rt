@@ -10,7 +10,7 @@ use cbor_value::Value;
 use cbor_value::raw_value::RawValue;
 use std::alloc::Global;
 use std::process::Abort;
-use test_checks::{Done, is_refused};
+use test_checks::{Verdict, is_refused};
 
 const LIMITS: Rules = Rules {
     most_items: Some(2),
@@ -42,7 +42,7 @@ const LONG: &[(&[u8], Rule, u64)] = &[
 ];
 
 /// The answer is a message.
-fn is_message<T: Drop>(rt: &impl Abort, answer: Result<T, Refusal>) -> Done {
+fn is_message<T: Drop>(rt: &impl Abort, answer: Result<T, Refusal>) -> Verdict {
     let e = error_of(answer)?;
     assert!(rt; matches!(e.code(), ErrorCode::Message(_)));
     Ok(())
@@ -63,7 +63,7 @@ fn departs_as<'a, T: Deserialize<'a, SliceRead<'a>>>(
     rt: &impl Abort,
     alloc: Global,
     (bytes, rule, offset): (&'a [u8], Rule, u64),
-) -> Done {
+) -> Verdict {
     let answer = from_slice_checked::<T>(alloc, bytes, LIMITS);
     has_departed(rt, answer, rule, offset)
 }
@@ -74,7 +74,7 @@ fn reads<'a, T: Deserialize<'a, SliceRead<'a>> + PartialEq>(
     alloc: Global,
     bytes: &'a [u8],
     expected: T,
-) -> Done {
+) -> Verdict {
     let value: T = value_of(from_slice_checked(alloc, bytes, LIMITS))?;
     assert!(rt; value == expected);
     Ok(())
@@ -83,7 +83,7 @@ fn reads<'a, T: Deserialize<'a, SliceRead<'a>> + PartialEq>(
 // No allocation is made, also for a type that would take memory for the items before the one that
 // is too long (.ci/growths).
 #[test]
-fn refuses_by_rules_without_memory(rt: HostRuntime) -> Done {
+fn refuses_by_rules_without_memory(rt: HostRuntime) -> Verdict {
     for row in LONG {
         has_departed(&rt, value_in(rt.alloc(), row.0), row.1, row.2)?;
         departs_as::<Vec<Value>>(&rt, rt.alloc(), *row)?;
@@ -95,7 +95,7 @@ fn refuses_by_rules_without_memory(rt: HostRuntime) -> Done {
 
 // A bool is none of these, which `from_slice_with` tells first.
 #[test]
-fn tells_a_departure_before_another_type(rt: HostRuntime) -> Done {
+fn tells_a_departure_before_another_type(rt: HostRuntime) -> Verdict {
     for (bytes, rule, offset) in LONG {
         is_message(&rt, from_slice_with::<bool>(rt.alloc(), bytes, LIMITS))?;
         has_departed(&rt, bool_in(rt.alloc(), bytes), *rule, *offset)?;
@@ -105,21 +105,21 @@ fn tells_a_departure_before_another_type(rt: HostRuntime) -> Done {
 
 // The chunks "ab" and "cd", of which the second is told after its head.
 #[test]
-fn refuses_long_chunks(rt: HostRuntime) -> Done {
+fn refuses_long_chunks(rt: HostRuntime) -> Verdict {
     let bytes = b"\x7f\x62ab\x62cd\xff";
     has_departed(&rt, value_in(rt.alloc(), bytes), Rule::MostBytes, 5)?;
     has_departed(&rt, bool_in(rt.alloc(), bytes), Rule::MostBytes, 5)
 }
 
 #[test]
-fn reads_what_keeps_the_limits(rt: HostRuntime) -> Done {
+fn reads_what_keeps_the_limits(rt: HostRuntime) -> Verdict {
     let alloc = rt.alloc();
     reads(&rt, alloc, b"\x82\x01\x02", (1u8, 2u8))?;
     reads(&rt, alloc, b"\x9f\x01\x02\xff", (1u8, 2u8))
 }
 
 #[test]
-fn reads_texts_and_numbers_within_the_limits(rt: HostRuntime) -> Done {
+fn reads_texts_and_numbers_within_the_limits(rt: HostRuntime) -> Verdict {
     let alloc = rt.alloc();
     reads(&rt, alloc, b"\x63abc", "abc")?;
     reads(&rt, alloc, b"\x18\x64", 100u8)?;
@@ -128,7 +128,7 @@ fn reads_texts_and_numbers_within_the_limits(rt: HostRuntime) -> Done {
 
 // And what is of another type is refused as ever: an array and a map.
 #[test]
-fn refuses_another_type_within_the_limits(rt: HostRuntime) -> Done {
+fn refuses_another_type_within_the_limits(rt: HostRuntime) -> Verdict {
     is_message(&rt, bool_in(rt.alloc(), b"\x82\x01\x02"))?;
     is_message(&rt, bool_in(rt.alloc(), b"\xa1\x01\x02"))
 }
@@ -153,7 +153,7 @@ const NO_ITEMS: &[(&[u8], &str)] = &[
 
 // It is refused as such, whichever type it is to be read as.
 #[test]
-fn refuses_what_is_no_item_first(rt: HostRuntime) -> Done {
+fn refuses_what_is_no_item_first(rt: HostRuntime) -> Verdict {
     for (bytes, words) in NO_ITEMS {
         let e = error_of(value_in(rt.alloc(), bytes))?;
         is_refused::<()>(Err(e), words)?;
@@ -165,7 +165,7 @@ fn refuses_what_is_no_item_first(rt: HostRuntime) -> Done {
 
 // 1(100), where tag 1 stands, and where tag 2 alone does.
 #[test]
-fn lets_tags_of_a_list_stand(rt: HostRuntime) -> Done {
+fn lets_tags_of_a_list_stand(rt: HostRuntime) -> Verdict {
     let alloc = rt.alloc();
     let time = b"\xc1\x18\x64";
     let seconds = from_slice_checked_with_tags::<u64>(alloc, time, NO_TAGS, &[0, 1]);
@@ -178,7 +178,7 @@ fn lets_tags_of_a_list_stand(rt: HostRuntime) -> Done {
 
 // Where it stands, what is of another type is refused as ever.
 #[test]
-fn refuses_another_type_in_a_tag(rt: HostRuntime) -> Done {
+fn refuses_another_type_in_a_tag(rt: HostRuntime) -> Verdict {
     let time = b"\xc1\x18\x64";
     let answer = from_slice_checked_with_tags::<bool>(rt.alloc(), time, NO_TAGS, &[0, 1]);
     is_message(&rt, answer)
@@ -186,7 +186,7 @@ fn refuses_another_type_in_a_tag(rt: HostRuntime) -> Done {
 
 // [1, 2, 3], 5: an item of a reader is kept as its bytes, and read of them where it keeps the limits.
 #[test]
-fn limits_an_item_of_a_reader(rt: HostRuntime) -> Done {
+fn limits_an_item_of_a_reader(rt: HostRuntime) -> Verdict {
     let alloc = rt.alloc();
     let reader: &[u8] = b"\x83\x01\x02\x03\x05";
     let mut de = Deserializer::from_reader(alloc, reader);

@@ -11,7 +11,7 @@ use cbor_value::Value;
 use std::alloc::Global;
 use std::process::Abort;
 use std::test::Fail;
-use test_checks::Done;
+use test_checks::Verdict;
 
 // ---- answers
 
@@ -30,7 +30,7 @@ pub fn has_departed<T: Drop>(
     answer: Result<T, Refusal>,
     rule: Rule,
     offset: u64,
-) -> Done {
+) -> Verdict {
     match answer {
         Ok(_) => Err(Fail::from("not refused")),
         Err(Refusal::Unread(e)) => Err(Fail::from(e)),
@@ -58,7 +58,7 @@ pub fn error_of<T: Drop>(answer: Result<T, Refusal>) -> Result<Error, Fail> {
 // ---- rows
 
 /// The bytes keep the rules.
-pub fn keeps(alloc: Global, rules: Rules, bytes: &[u8]) -> Done {
+pub fn keeps(alloc: Global, rules: Rules, bytes: &[u8]) -> Verdict {
     value_of(from_slice_with::<Value>(alloc, bytes, rules))?;
     Ok(())
 }
@@ -71,7 +71,7 @@ pub fn departs(
     bytes: &[u8],
     rule: Rule,
     offset: u64,
-) -> Done {
+) -> Verdict {
     has_departed(
         rt,
         from_slice_with::<Value>(alloc, bytes, rules),
@@ -81,7 +81,7 @@ pub fn departs(
 }
 
 /// Each of these keeps the rules.
-pub fn all_keep(alloc: Global, rules: Rules, rows: &[&[u8]]) -> Done {
+pub fn all_keep(alloc: Global, rules: Rules, rows: &[&[u8]]) -> Verdict {
     for bytes in rows {
         keeps(alloc, rules, bytes)?;
     }
@@ -95,7 +95,7 @@ pub fn all_depart(
     rules: Rules,
     rule: Rule,
     rows: &[(&[u8], u64)],
-) -> Done {
+) -> Verdict {
     for (bytes, offset) in rows {
         departs(rt, alloc, rules, bytes, rule, *offset)?;
     }
@@ -103,7 +103,7 @@ pub fn all_depart(
 }
 
 /// Each of the same keeps these rules.
-pub fn all_pass(alloc: Global, rules: Rules, rows: &[(&[u8], u64)]) -> Done {
+pub fn all_pass(alloc: Global, rules: Rules, rows: &[(&[u8], u64)]) -> Verdict {
     for (bytes, _) in rows {
         keeps(alloc, rules, bytes)?;
     }
@@ -123,7 +123,7 @@ pub enum Verdict {
 pub type Row = (Rules, &'static [u8], Verdict);
 
 /// The bytes of each row do what it says.
-pub fn judges(rt: &impl Abort, alloc: Global, rows: &[Row]) -> Done {
+pub fn judges(rt: &impl Abort, alloc: Global, rows: &[Row]) -> Verdict {
     for (rules, bytes, verdict) in rows {
         match verdict {
             Verdict::Keeps => keeps(alloc, *rules, bytes)?,
@@ -147,7 +147,7 @@ pub fn has_tags(
     tags: &[u64],
     bytes: &[u8],
     another: Option<u64>,
-) -> Done {
+) -> Verdict {
     let answer = from_slice_with_tags::<Value>(alloc, bytes, NO_TAGS, tags);
     match another {
         Some(offset) => has_departed(rt, answer, Rule::NoTags, offset),
@@ -186,7 +186,7 @@ pub fn is_written(
     form: Form,
     want: &[u8],
     rules: Rules,
-) -> Done {
+) -> Verdict {
     let value: Value = from_slice(alloc, bytes)?;
     let bytes = written(alloc, form, &value)?;
     assert!(rt; bytes.as_slice() == want);
@@ -220,7 +220,7 @@ fn strictly_departs_at(alloc: Global, bytes: &[u8]) -> Result<Option<u64>, Fail>
 }
 
 /// By the canonical rules the bytes depart where they do for strict reading.
-pub fn agrees(rt: &impl Abort, alloc: Global, bytes: &[u8]) -> Done {
+pub fn agrees(rt: &impl Abort, alloc: Global, bytes: &[u8]) -> Verdict {
     let by_rules = departs_at(alloc, bytes)?;
     let strictly = strictly_departs_at(alloc, bytes)?;
     assert!(rt; by_rules == strictly);

@@ -3,7 +3,7 @@
 use crate::checks::Verdict::{Departs, Keeps};
 use crate::checks::{Form, Row, all_depart, all_keep, all_pass, is_written, judges};
 use cbor_rules::{Rule, Rules};
-use test_checks::Done;
+use test_checks::Verdict;
 
 // Examples of RFC 8949, Appendix A, whose numbers are reduced: integers, floats that are none, and
 // what holds them.
@@ -22,7 +22,7 @@ const REDUCED: &[&[u8]] = &[
 ];
 
 #[test]
-fn reads_reduced_examples(rt: HostRuntime) -> Done {
+fn reads_reduced_examples(rt: HostRuntime) -> Verdict {
     all_keep(rt.alloc(), Rules::DCBOR, REDUCED)
 }
 
@@ -62,7 +62,7 @@ const IN_ITS_FORM: &[&[u8]] = &[
 ];
 
 #[test]
-fn refuses_what_it_does_not_have(rt: HostRuntime) -> Done {
+fn refuses_what_it_does_not_have(rt: HostRuntime) -> Verdict {
     let alloc = rt.alloc();
     all_depart(&rt, alloc, Rules::DCBOR, Rule::ReducedNumbers, UNREDUCED)?;
     all_pass(alloc, Rules::ANY, UNREDUCED)?;
@@ -94,7 +94,7 @@ const INTEGERS: &[&[u8]] = &[
 ];
 
 #[test]
-fn reads_integers_at_each_edge_of_a_width(rt: HostRuntime) -> Done {
+fn reads_integers_at_each_edge_of_a_width(rt: HostRuntime) -> Verdict {
     all_keep(rt.alloc(), Rules::DCBOR, INTEGERS)
 }
 
@@ -119,7 +119,7 @@ const FLOATS: &[&[u8]] = &[
 ];
 
 #[test]
-fn reads_floats_at_each_edge_of_a_width(rt: HostRuntime) -> Done {
+fn reads_floats_at_each_edge_of_a_width(rt: HostRuntime) -> Verdict {
     all_keep(rt.alloc(), Rules::DCBOR, FLOATS)
 }
 
@@ -142,7 +142,7 @@ const LONGER_HEADS: &[(&[u8], u64)] = &[
 ];
 
 #[test]
-fn refuses_integers_in_a_longer_head(rt: HostRuntime) -> Done {
+fn refuses_integers_in_a_longer_head(rt: HostRuntime) -> Verdict {
     let rule = Rule::ShortestHeads;
     all_depart(&rt, rt.alloc(), Rules::DCBOR, rule, LONGER_HEADS)
 }
@@ -164,7 +164,7 @@ const WIDER_FLOATS: &[(&[u8], u64)] = &[
 ];
 
 #[test]
-fn refuses_wider_floats(rt: HostRuntime) -> Done {
+fn refuses_wider_floats(rt: HostRuntime) -> Verdict {
     let rule = Rule::ShortestFloats;
     all_depart(&rt, rt.alloc(), Rules::DCBOR, rule, WIDER_FLOATS)
 }
@@ -183,7 +183,7 @@ const INTEGERS_AS_FLOATS: &[(&[u8], u64)] = &[
 ];
 
 #[test]
-fn refuses_integers_as_floats(rt: HostRuntime) -> Done {
+fn refuses_integers_as_floats(rt: HostRuntime) -> Verdict {
     let rule = Rule::ReducedNumbers;
     all_depart(&rt, rt.alloc(), Rules::DCBOR, rule, INTEGERS_AS_FLOATS)
 }
@@ -197,13 +197,13 @@ const INDEFINITE: &[(&[u8], u64)] = &[
 ];
 
 #[test]
-fn refuses_indefinite_lengths(rt: HostRuntime) -> Done {
+fn refuses_indefinite_lengths(rt: HostRuntime) -> Verdict {
     let rule = Rule::DefiniteLengths;
     all_depart(&rt, rt.alloc(), Rules::DCBOR, rule, INDEFINITE)
 }
 
 #[test]
-fn reads_what_is_written(rt: HostRuntime) -> Done {
+fn reads_what_is_written(rt: HostRuntime) -> Verdict {
     let bytes = b"\xbf\xfa\x3f\xc0\0\0\x01\xf9\x40\0\xf9\x80\0\xff";
     let want = b"\xa2\x02\0\xf9\x3e\0\x01";
     is_written(&rt, rt.alloc(), bytes, Form::Dcbor, want, Rules::DCBOR)

@@ -7,7 +7,7 @@ use cbor_rules::{Rule, RuledItems, Rules};
 use cbor_value::Value;
 use std::process::Abort;
 use std::test::Fail;
-use test_checks::Done;
+use test_checks::Verdict;
 
 /// What is asked of items, and what comes of it. A refusal takes nothing.
 #[derive(Clone, Copy)]
@@ -50,14 +50,14 @@ fn departs_as<'a, T: Deserialize<'a, SliceRead<'a>>>(
     items: &mut RuledItems<'a, '_>,
     rule: Rule,
     offset: u64,
-) -> Done {
+) -> Verdict {
     let before = items.byte_offset();
     has_departed(rt, items.next_item::<T>(), rule, offset)?;
     assert_eq!(rt; items.byte_offset(), before);
     Ok(())
 }
 
-fn departs(rt: &impl Abort, items: &mut RuledItems<'_, '_>, rule: Rule, offset: u64) -> Done {
+fn departs(rt: &impl Abort, items: &mut RuledItems<'_, '_>, rule: Rule, offset: u64) -> Verdict {
     departs_as::<Value>(rt, items, rule, offset)?;
     departs_as::<IgnoredAny>(rt, items, rule, offset)
 }
@@ -67,7 +67,7 @@ fn is_unread<'a, T: Deserialize<'a, SliceRead<'a>>>(
     rt: &impl Abort,
     items: &mut RuledItems<'a, '_>,
     offset: u64,
-) -> Done {
+) -> Verdict {
     let before = items.byte_offset();
     let e = error_of(items.next_item::<T>())?;
     assert_eq!(rt; e.offset(), offset);
@@ -76,18 +76,18 @@ fn is_unread<'a, T: Deserialize<'a, SliceRead<'a>>>(
 }
 
 // A message has no offset.
-fn misfits(rt: &impl Abort, items: &mut RuledItems<'_, '_>) -> Done {
+fn misfits(rt: &impl Abort, items: &mut RuledItems<'_, '_>) -> Verdict {
     is_unread::<u8>(rt, items, 0)?;
     is_unread::<bool>(rt, items, 0)
 }
 
-fn ends(rt: &impl Abort, items: &mut RuledItems<'_, '_>) -> Done {
+fn ends(rt: &impl Abort, items: &mut RuledItems<'_, '_>) -> Verdict {
     assert!(rt; value_of(items.next_item::<Value>())?.is_none());
     Ok(())
 }
 
 /// Of these items comes what the steps say.
-fn plays(rt: &impl Abort, items: &mut RuledItems<'_, '_>, steps: &[Step<'_>]) -> Done {
+fn plays(rt: &impl Abort, items: &mut RuledItems<'_, '_>, steps: &[Step<'_>]) -> Verdict {
     for step in steps {
         match *step {
             Number(number, end) => assert!(rt; next::<i64>(items)? == (number, end)),
@@ -108,7 +108,7 @@ fn plays(rt: &impl Abort, items: &mut RuledItems<'_, '_>, steps: &[Step<'_>]) ->
 const SEQUENCE: &[u8] = b"\x19\x03\xe8\x64IETF\x20";
 
 #[test]
-fn reads_a_sequence(rt: HostRuntime) -> Done {
+fn reads_a_sequence(rt: HostRuntime) -> Verdict {
     let mut items = RuledItems::new(rt.alloc(), SEQUENCE, Rules::DETERMINISTIC);
     let steps = [Number(1000, 3), Text("IETF", 8), Number(-1, 9), Ends];
     plays(&rt, &mut items, &steps)
@@ -117,7 +117,7 @@ fn reads_a_sequence(rt: HostRuntime) -> Done {
 // The same but "IETF", whose length takes a byte more than it has to: the departure is after the
 // head, which 78 begins.
 #[test]
-fn reports_a_departure_from_the_beginning_of_all(rt: HostRuntime) -> Done {
+fn reports_a_departure_from_the_beginning_of_all(rt: HostRuntime) -> Verdict {
     let bytes = b"\x19\x03\xe8\x78\x04IETF\x20";
     let mut items = RuledItems::new(rt.alloc(), bytes, Rules::CTAP2);
     let rule = Rule::ShortestHeads;
@@ -131,7 +131,7 @@ fn reports_a_departure_from_the_beginning_of_all(rt: HostRuntime) -> Done {
 }
 
 #[test]
-fn reads_as_another_type_what_was_refused(rt: HostRuntime) -> Done {
+fn reads_as_another_type_what_was_refused(rt: HostRuntime) -> Verdict {
     let mut items = RuledItems::new(rt.alloc(), SEQUENCE, Rules::DETERMINISTIC);
     let steps = [Misfits, Number(1000, 3), Misfits, Passes(8), Number(-1, 9)];
     plays(&rt, &mut items, &steps)
@@ -143,7 +143,7 @@ fn reads_as_another_type_what_was_refused(rt: HostRuntime) -> Done {
 const KEY: &[u8] = b"\xa4\x01\x02\x20\x01\x21\x42\x65\xed\x22\x42\x1e\x52\xff\xfc";
 
 #[test]
-fn leaves_what_follows_an_item(rt: HostRuntime) -> Done {
+fn leaves_what_follows_an_item(rt: HostRuntime) -> Verdict {
     let mut items = RuledItems::new(rt.alloc(), KEY, Rules::CTAP2);
     plays(&rt, &mut items, &[Passes(13), Faults(14), Taken(13)])?;
     // cut off, at the end of the bytes
@@ -152,7 +152,7 @@ fn leaves_what_follows_an_item(rt: HostRuntime) -> Done {
 }
 
 #[test]
-fn refuses_no_bytes_as_none(rt: HostRuntime) -> Done {
+fn refuses_no_bytes_as_none(rt: HostRuntime) -> Verdict {
     let mut items = RuledItems::new(rt.alloc(), b"", Rules::ANY);
     plays(&rt, &mut items, &[Ends, Taken(0)])
 }
@@ -160,7 +160,7 @@ fn refuses_no_bytes_as_none(rt: HostRuntime) -> Done {
 // Keys that may stand in any order are told apart in each item by itself: {2: 0, 1: 0}, {1: 0} and
 // {1: 0, 1: 0}.
 #[test]
-fn begins_keys_anew(rt: HostRuntime) -> Done {
+fn begins_keys_anew(rt: HostRuntime) -> Verdict {
     let bytes = b"\xa2\x02\0\x01\0\xa1\x01\0\xa2\x01\0\x01\0";
     let mut items = RuledItems::new(rt.alloc(), bytes, Rules::UNIQUE_KEYS);
     let steps = [Passes(5), Passes(8), Departs(Rule::UniqueKeys, 12)];
@@ -176,7 +176,7 @@ const NO_TAGS: Rules = Rules {
 const TAGGED: &[u8] = b"\xc1\x1a\x51\x4b\x67\xb0\xd8\x20\x76http://www.example.com";
 
 #[test]
-fn reads_tags_of_the_list_alone(rt: HostRuntime) -> Done {
+fn reads_tags_of_the_list_alone(rt: HostRuntime) -> Verdict {
     let mut items = RuledItems::with_tags(rt.alloc(), TAGGED, NO_TAGS, &[0, 1]);
     let steps = [Number(1_363_896_240, 6), TextDeparts(Rule::NoTags, 8)];
     plays(&rt, &mut items, &steps)?;

@@ -3,7 +3,7 @@
 use crate::checks::Verdict::{Departs, Keeps};
 use crate::checks::{Form, Row, all_depart, departs, is_written, judges, keeps};
 use cbor_rules::{KeyOrder, Rule, Rules};
-use test_checks::Done;
+use test_checks::Verdict;
 
 // The keys of RFC 8949, section 4.2.1, in the order given there, each with null.
 const BYTEWISE: &[u8] =
@@ -37,13 +37,13 @@ const IN_ITS_ORDER: &[Row] = &[
 ];
 
 #[test]
-fn reads_the_example_in_its_order_alone(rt: HostRuntime) -> Done {
+fn reads_the_example_in_its_order_alone(rt: HostRuntime) -> Verdict {
     judges(&rt, rt.alloc(), IN_ITS_ORDER)
 }
 
 // Each order is what its form writes.
 #[test]
-fn reads_what_its_form_writes(rt: HostRuntime) -> Done {
+fn reads_what_its_form_writes(rt: HostRuntime) -> Verdict {
     let alloc = rt.alloc();
     let form = Form::Deterministic;
     is_written(
@@ -83,7 +83,7 @@ const BY_TYPE_AND_LENGTH: &[Row] = &[
 ];
 
 #[test]
-fn reads_keys_by_type_and_length(rt: HostRuntime) -> Done {
+fn reads_keys_by_type_and_length(rt: HostRuntime) -> Verdict {
     judges(&rt, rt.alloc(), BY_TYPE_AND_LENGTH)
 }
 
@@ -93,7 +93,7 @@ const SORTED: &[u8] = b"\xa5\x01\x02\x03\x26\x20\x01\x21\x41\x0a\x22\x41\x0b";
 const UNSORTED: &[u8] = b"\xa5\x20\x01\x21\x41\x0a\x22\x41\x0b\x01\x02\x03\x26";
 
 #[test]
-fn reads_what_is_written_for_ctap2(rt: HostRuntime) -> Done {
+fn reads_what_is_written_for_ctap2(rt: HostRuntime) -> Verdict {
     let alloc = rt.alloc();
     keeps(alloc, Rules::CTAP2, SORTED)?;
     departs(&rt, alloc, Rules::CTAP2, UNSORTED, Rule::AscendingKeys, 10)?;
@@ -107,7 +107,7 @@ const TWICE: &[(&[u8], u64)] = &[
 ];
 
 #[test]
-fn refuses_equal_keys(rt: HostRuntime) -> Done {
+fn refuses_equal_keys(rt: HostRuntime) -> Verdict {
     for order in [
         KeyOrder::Bytewise,
         KeyOrder::LengthFirst,

@@ -3,7 +3,7 @@
 use crate::checks::Verdict::{Departs, Keeps};
 use crate::checks::{Row, all_depart, all_keep, all_pass, judges};
 use cbor_rules::{Rule, Rules};
-use test_checks::Done;
+use test_checks::Verdict;
 
 const TWO_ITEMS: Rules = Rules {
     most_items: Some(2),
@@ -110,7 +110,7 @@ const SHORT_STRINGS: &[&[u8]] = &[
 ];
 
 #[test]
-fn refuses_long_arrays(rt: HostRuntime) -> Done {
+fn refuses_long_arrays(rt: HostRuntime) -> Verdict {
     let alloc = rt.alloc();
     all_depart(&rt, alloc, TWO_ITEMS, Rule::MostItems, LONG_ARRAYS)?;
     all_pass(alloc, Rules::ANY, LONG_ARRAYS)?;
@@ -118,7 +118,7 @@ fn refuses_long_arrays(rt: HostRuntime) -> Done {
 }
 
 #[test]
-fn refuses_long_maps(rt: HostRuntime) -> Done {
+fn refuses_long_maps(rt: HostRuntime) -> Verdict {
     let alloc = rt.alloc();
     all_depart(&rt, alloc, ONE_PAIR, Rule::MostPairs, LONG_MAPS)?;
     all_pass(alloc, Rules::ANY, LONG_MAPS)?;
@@ -126,7 +126,7 @@ fn refuses_long_maps(rt: HostRuntime) -> Done {
 }
 
 #[test]
-fn refuses_long_strings(rt: HostRuntime) -> Done {
+fn refuses_long_strings(rt: HostRuntime) -> Verdict {
     let alloc = rt.alloc();
     all_depart(&rt, alloc, THREE_BYTES, Rule::MostBytes, LONG_STRINGS)?;
     all_pass(alloc, Rules::ANY, LONG_STRINGS)?;
@@ -152,7 +152,7 @@ const NONE_OR_ONE: &[Row] = &[
 ];
 
 #[test]
-fn refuses_all_but_empty_ones(rt: HostRuntime) -> Done {
+fn refuses_all_but_empty_ones(rt: HostRuntime) -> Verdict {
     judges(&rt, rt.alloc(), NONE_OR_ONE)
 }
 
@@ -183,6 +183,6 @@ const LIMIT_FIRST: &[Row] = &[
 ];
 
 #[test]
-fn reports_a_limit_first(rt: HostRuntime) -> Done {
+fn reports_a_limit_first(rt: HostRuntime) -> Verdict {
     judges(&rt, rt.alloc(), LIMIT_FIRST)
 }

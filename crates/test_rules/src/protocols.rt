@@ -9,7 +9,7 @@ use crate::published::{
 use cbor_rules::{KeyOrder, Rule, Rules};
 use std::alloc::Global;
 use std::process::Abort;
-use test_checks::Done;
+use test_checks::Verdict;
 
 /// The bytes after the first.
 fn behind_first(bytes: &[u8]) -> &[u8] {
@@ -28,7 +28,7 @@ fn repeats(
     map: &[u8],
     pair: &[u8],
     offset: u64,
-) -> Done {
+) -> Verdict {
     let mut bytes = head.to_vec(alloc)?;
     bytes.extend_from_slice(behind_first(map))?;
     bytes.extend_from_slice(pair)?;
@@ -42,7 +42,7 @@ fn repeats(
 // `up` and `uv` of two bytes, `plat` of four, `clientPin` of nine. So both are in the order of
 // CTAP2 and in that of lengths. Heads are the shortest: 58 20 has 32 bytes, and 19 04 b0 is 1200.
 #[test]
-fn reads_answers_of_authenticators(rt: HostRuntime) -> Done {
+fn reads_answers_of_authenticators(rt: HostRuntime) -> Verdict {
     let answers = [CREDENTIAL_KEY, INFO];
     all_keep(rt.alloc(), Rules::CTAP2, &answers)?;
     all_keep(rt.alloc(), Rules::LENGTH_FIRST, &answers)
@@ -52,7 +52,7 @@ fn reads_answers_of_authenticators(rt: HostRuntime) -> Done {
 // three each, in the order of the alphabet. The strings have 70 (58 46), 732 (59 02 dc) and 196
 // bytes (58 c4).
 #[test]
-fn reads_an_attestation(rt: HostRuntime) -> Done {
+fn reads_an_attestation(rt: HostRuntime) -> Verdict {
     keeps(rt.alloc(), Rules::CTAP2, ATTESTATION)?;
     keeps(rt.alloc(), Rules::LENGTH_FIRST, ATTESTATION)
 }
@@ -71,7 +71,7 @@ const KEYS: &[(&[u8], u64)] = &[
 ];
 
 #[test]
-fn refuses_keys_of_cose_in_the_order_of_rfcs(rt: HostRuntime) -> Done {
+fn refuses_keys_of_cose_in_the_order_of_rfcs(rt: HostRuntime) -> Verdict {
     all_depart(&rt, rt.alloc(), Rules::CTAP2, Rule::AscendingKeys, KEYS)?;
     // the order is all that CTAP2 has against them
     let unique = Rules::CTAP2.with_keys(KeyOrder::Unique);
@@ -83,7 +83,7 @@ fn refuses_keys_of_cose_in_the_order_of_rfcs(rt: HostRuntime) -> Done {
 // two more strings, with the shortest heads: that keeps the rules. The protected header, {1: -7},
 // and the claims are items by themselves, which stand in byte strings there.
 #[test]
-fn refuses_messages_with_their_tags(rt: HostRuntime) -> Done {
+fn refuses_messages_with_their_tags(rt: HostRuntime) -> Verdict {
     for bytes in [TOKEN, MESSAGE, ENCRYPTED, NESTED, MACED_ISSUED] {
         departs(&rt, rt.alloc(), Rules::CTAP2, bytes, Rule::NoTags, 1)?;
         keeps(rt.alloc(), Rules::CTAP2, behind_first(bytes))?;
@@ -94,7 +94,7 @@ fn refuses_messages_with_their_tags(rt: HostRuntime) -> Done {
 
 // 61 is d8 3d, and within it 17 is d1.
 #[test]
-fn refuses_each_tag_of_a_token(rt: HostRuntime) -> Done {
+fn refuses_each_tag_of_a_token(rt: HostRuntime) -> Verdict {
     departs(&rt, rt.alloc(), Rules::CTAP2, MACED, Rule::NoTags, 2)?;
     let within = behind_first(behind_first(MACED));
     departs(&rt, rt.alloc(), Rules::CTAP2, within, Rule::NoTags, 1)?;
@@ -106,7 +106,7 @@ const TOKENS: &[&[u8]] = &[TOKEN, MACED, ENCRYPTED, NESTED, MACED_ISSUED];
 // The others have tags. The labels 4 and 5 ascend, and heads are the shortest: 58 50 has 80 bytes,
 // 58 58 has 88 and 58 b7 has 183. What byte strings hold, a float also, is not looked at.
 #[test]
-fn reads_tokens_with_their_tags(rt: HostRuntime) -> Done {
+fn reads_tokens_with_their_tags(rt: HostRuntime) -> Verdict {
     let alloc = rt.alloc();
     all_keep(alloc, Rules::UNIQUE_KEYS, TOKENS)?;
     all_keep(alloc, Rules::CANONICAL, TOKENS)?;
@@ -128,13 +128,13 @@ const TIMES: &[Row] = &[
 ];
 
 #[test]
-fn reads_a_time_with_a_fraction(rt: HostRuntime) -> Done {
+fn reads_a_time_with_a_fraction(rt: HostRuntime) -> Verdict {
     judges(&rt, rt.alloc(), TIMES)
 }
 
 // RFC 9052, section 9, asks that no label stands twice in a map, and asks for no order.
 #[test]
-fn reads_keys_of_cose_in_any_order(rt: HostRuntime) -> Done {
+fn reads_keys_of_cose_in_any_order(rt: HostRuntime) -> Verdict {
     all_pass(rt.alloc(), Rules::UNIQUE_KEYS, KEYS)?;
     keeps(rt.alloc(), Rules::UNIQUE_KEYS, CREDENTIAL_KEY)
 }
@@ -153,7 +153,7 @@ const LABELS_TWICE: &[(&[u8], &[u8], &[u8], u64)] = &[
 ];
 
 #[test]
-fn refuses_a_label_twice(rt: HostRuntime) -> Done {
+fn refuses_a_label_twice(rt: HostRuntime) -> Verdict {
     for (map, head, pair, offset) in LABELS_TWICE {
         repeats(&rt, rt.alloc(), head, map, pair, *offset)?;
     }

@@ -7,7 +7,7 @@ use cbor_rules::{Refusal, Rule, Rules, next_raw_item, next_raw_item_with_tags};
 use cbor_value::raw_value::RawValue;
 use std::alloc::{AllocError, Global};
 use std::process::Abort;
-use test_checks::{Done, is_refused};
+use test_checks::{Verdict, is_refused};
 
 const LIMITS: Rules = Rules {
     most_items: Some(2),
@@ -22,7 +22,12 @@ const NO_TAGS: Rules = Rules {
 };
 
 /// The next item keeps the rules, and has these bytes.
-fn takes<R: Source>(rt: &impl Abort, de: &mut Deserializer<R>, rules: Rules, bytes: &[u8]) -> Done {
+fn takes<R: Source>(
+    rt: &impl Abort,
+    de: &mut Deserializer<R>,
+    rules: Rules,
+    bytes: &[u8],
+) -> Verdict {
     let item = value_of(next_raw_item(de, rules))?;
     assert!(rt; matches!(&item, Some(it) if it.as_bytes() == bytes));
     Ok(())
@@ -35,12 +40,12 @@ fn departs<R: Source>(
     rules: Rules,
     rule: Rule,
     offset: u64,
-) -> Done {
+) -> Verdict {
     has_departed(rt, next_raw_item(de, rules), rule, offset)
 }
 
 /// The next item is no item, which is reported with these words.
-fn faults<R: Source>(de: &mut Deserializer<R>, rules: Rules, words: &str) -> Done {
+fn faults<R: Source>(de: &mut Deserializer<R>, rules: Rules, words: &str) -> Verdict {
     let e = error_of(next_raw_item(de, rules))?;
     is_refused::<()>(Err(e), words)
 }
@@ -52,7 +57,7 @@ fn departs_early(
     bytes: &[u8],
     departure: (Rule, u64),
     most: usize,
-) -> Done {
+) -> Verdict {
     let mut de = Deserializer::from_reader(alloc, Endless { bytes, given: 0 });
     departs(rt, &mut de, LIMITS, departure.0, departure.1)?;
     assert!(rt; de.byte_offset() <= most);
@@ -74,7 +79,7 @@ const LONG: &[(&[u8], (Rule, u64), usize)] = &[
 
 // The peer never ends.
 #[test]
-fn takes_no_more_than_shows_a_limit(rt: HostRuntime) -> Done {
+fn takes_no_more_than_shows_a_limit(rt: HostRuntime) -> Verdict {
     for (bytes, departure, most) in LONG {
         departs_early(&rt, rt.alloc(), bytes, *departure, *most)?;
     }
@@ -88,7 +93,7 @@ const HEADS: Rules = Rules {
 
 // An item of no power of two bytes departs by its last, and offsets count from the input's start.
 #[test]
-fn tells_where_an_item_departs(rt: HostRuntime) -> Done {
+fn tells_where_an_item_departs(rt: HostRuntime) -> Verdict {
     let reader: &[u8] = b"\x05\x82\x01\x18\x17\x05";
     let mut de = Deserializer::from_reader(rt.alloc(), reader);
     takes(&rt, &mut de, HEADS, b"\x05")?;
@@ -110,7 +115,7 @@ const KEPT: &[&[u8]] = &[
 ];
 
 /// The bytes are taken, and 5 behind them is left.
-fn is_taken(rt: &impl Abort, alloc: Global, item: &[u8]) -> Done {
+fn is_taken(rt: &impl Abort, alloc: Global, item: &[u8]) -> Verdict {
     let mut bytes = item.to_vec(alloc)?;
     bytes.push(0x05)?;
     let mut de = Deserializer::from_reader(alloc, bytes.as_slice());
@@ -120,7 +125,7 @@ fn is_taken(rt: &impl Abort, alloc: Global, item: &[u8]) -> Done {
 }
 
 #[test]
-fn takes_what_keeps_the_rules(rt: HostRuntime) -> Done {
+fn takes_what_keeps_the_rules(rt: HostRuntime) -> Verdict {
     for item in KEPT {
         is_taken(&rt, rt.alloc(), item)?;
     }
@@ -128,14 +133,14 @@ fn takes_what_keeps_the_rules(rt: HostRuntime) -> Done {
 }
 
 /// Of {1: 2, 3: 4} and {1: 2, 1: 4} the second has a key twice.
-fn departs_in_the_second<R: Source>(rt: &impl Abort, de: &mut Deserializer<R>) -> Done {
+fn departs_in_the_second<R: Source>(rt: &impl Abort, de: &mut Deserializer<R>) -> Verdict {
     takes(rt, de, Rules::UNIQUE_KEYS, b"\xa2\x01\x02\x03\x04")?;
     departs(rt, de, Rules::UNIQUE_KEYS, Rule::UniqueKeys, 9)
 }
 
 // From a slice, whose bytes are at hand, and from a reader.
 #[test]
-fn looks_at_the_keys_of_each_map(rt: HostRuntime) -> Done {
+fn looks_at_the_keys_of_each_map(rt: HostRuntime) -> Verdict {
     let bytes: &[u8] = b"\xa2\x01\x02\x03\x04\xa2\x01\x02\x01\x04";
     departs_in_the_second(&rt, &mut Deserializer::from_slice(rt.alloc(), bytes))?;
     departs_in_the_second(&rt, &mut Deserializer::from_reader(rt.alloc(), bytes))
@@ -149,7 +154,7 @@ fn of_tags(alloc: Global, bytes: &[u8], tags: &[u64]) -> Result<Option<RawValue>
 
 // 1(100), where tag 1 stands, and where tag 2 alone does.
 #[test]
-fn lets_tags_of_a_list_stand(rt: HostRuntime) -> Done {
+fn lets_tags_of_a_list_stand(rt: HostRuntime) -> Verdict {
     let alloc = rt.alloc();
     let time: &[u8] = b"\xc1\x18\x64";
     let item = value_of(of_tags(alloc, time, &[0, 1]))?;
@@ -169,7 +174,7 @@ const NO_ITEMS: &[(&[u8], &str)] = &[
 ];
 
 #[test]
-fn refuses_what_is_no_item(rt: HostRuntime) -> Done {
+fn refuses_what_is_no_item(rt: HostRuntime) -> Verdict {
     for (bytes, words) in NO_ITEMS {
         let mut de = Deserializer::from_reader(rt.alloc(), *bytes);
         faults(&mut de, LIMITS, words)?;
@@ -186,7 +191,7 @@ fn deep(alloc: Global) -> Result<Vec<u8>, AllocError> {
 
 // 127 arrays are within the levels.
 #[test]
-fn keeps_to_the_levels(rt: HostRuntime) -> Done {
+fn keeps_to_the_levels(rt: HostRuntime) -> Verdict {
     let bytes = deep(rt.alloc())?;
     let mut any = Deserializer::from_reader(rt.alloc(), bytes.as_slice());
     takes(&rt, &mut any, Rules::ANY, &bytes)?;
@@ -196,7 +201,7 @@ fn keeps_to_the_levels(rt: HostRuntime) -> Done {
 
 // Of more levels a departure is told only where it comes first.
 #[test]
-fn refuses_a_level_too_many(rt: HostRuntime) -> Done {
+fn refuses_a_level_too_many(rt: HostRuntime) -> Verdict {
     let bytes = deep(rt.alloc())?;
     let peer = Endless {
         bytes: &bytes,

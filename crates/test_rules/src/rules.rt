@@ -7,7 +7,7 @@ use cbor_value::Value;
 use std::alloc::Global;
 use std::process::Abort;
 use std::test::Fail;
-use test_checks::Done;
+use test_checks::Verdict;
 
 // One rule each.
 const HEADS: Rules = Rules {
@@ -84,7 +84,7 @@ const EACH: &[Row] = &[
 ];
 
 #[test]
-fn reports_each_rule(rt: HostRuntime) -> Done {
+fn reports_each_rule(rt: HostRuntime) -> Verdict {
     judges(&rt, rt.alloc(), EACH)
 }
 
@@ -115,7 +115,7 @@ const NUMBERS: &[Row] = &[
 ];
 
 #[test]
-fn reports_numbers_that_are_not_reduced(rt: HostRuntime) -> Done {
+fn reports_numbers_that_are_not_reduced(rt: HostRuntime) -> Verdict {
     judges(&rt, rt.alloc(), NUMBERS)
 }
 
@@ -123,13 +123,13 @@ fn reports_numbers_that_are_not_reduced(rt: HostRuntime) -> Done {
 const HEAD_FIRST: &[(&[u8], u64)] = &[(b"\xd8\x01\0", 2), (b"\xa2\x01\0\x18\x01\x02", 5)];
 
 #[test]
-fn reports_a_head_before_what_it_says(rt: HostRuntime) -> Done {
+fn reports_a_head_before_what_it_says(rt: HostRuntime) -> Verdict {
     let rule = Rule::ShortestHeads;
     all_depart(&rt, rt.alloc(), Rules::CTAP2, rule, HEAD_FIRST)
 }
 
 /// The bytes are no item, which is reported at this offset.
-fn is_no_item(rt: &impl Abort, alloc: Global, bytes: &[u8], offset: u64) -> Done {
+fn is_no_item(rt: &impl Abort, alloc: Global, bytes: &[u8], offset: u64) -> Verdict {
     let Err(Refusal::Unread(e)) = from_slice_with::<Value>(alloc, bytes, Rules::DETERMINISTIC)
     else {
         return Err(Fail::from("not refused as no item"));
@@ -143,7 +143,7 @@ fn is_no_item(rt: &impl Abort, alloc: Global, bytes: &[u8], offset: u64) -> Done
 
 // What is no item is refused as such, also where a departure comes before.
 #[test]
-fn refuses_what_is_no_item(rt: HostRuntime) -> Done {
+fn refuses_what_is_no_item(rt: HostRuntime) -> Verdict {
     let alloc = rt.alloc();
     is_no_item(&rt, alloc, b"\x82\x18\x01", 3)?;
     is_no_item(&rt, alloc, b"\x18\x01\0", 3)?;
@@ -167,7 +167,7 @@ const CANONICAL_OR_NOT: &[&[u8]] = &[
 ];
 
 #[test]
-fn reads_canonically_as_strict_reading_does(rt: HostRuntime) -> Done {
+fn reads_canonically_as_strict_reading_does(rt: HostRuntime) -> Verdict {
     for bytes in CANONICAL_OR_NOT {
         agrees(&rt, rt.alloc(), bytes)?;
     }

@@ -7,7 +7,7 @@ use cbor_rules::{Rule, RuledStream, Rules};
 use cbor_value::Value;
 use std::alloc::Global;
 use std::process::Abort;
-use test_checks::{Done, is_refused};
+use test_checks::{Verdict, is_refused};
 
 /// What is asked of items, and what comes of it.
 #[derive(Clone, Copy)]
@@ -30,13 +30,13 @@ enum Step<'a> {
 
 use Step::{Departs, Ends, Faults, Misfits, Number, Taken, Text};
 
-fn is_number<R: Source>(rt: &impl Abort, items: &mut RuledStream<'_, R>, number: i64) -> Done {
+fn is_number<R: Source>(rt: &impl Abort, items: &mut RuledStream<'_, R>, number: i64) -> Verdict {
     let item: Option<i64> = value_of(items.next_item())?;
     assert!(rt; item == Some(number));
     Ok(())
 }
 
-fn is_text<R: Source>(rt: &impl Abort, items: &mut RuledStream<'_, R>, text: &str) -> Done {
+fn is_text<R: Source>(rt: &impl Abort, items: &mut RuledStream<'_, R>, text: &str) -> Verdict {
     let item: Option<String> = value_of(items.next_item())?;
     assert!(rt; matches!(&item, Some(it) if it.as_str() == text));
     Ok(())
@@ -47,21 +47,21 @@ fn departs<R: Source>(
     items: &mut RuledStream<'_, R>,
     rule: Rule,
     offset: u64,
-) -> Done {
+) -> Verdict {
     has_departed(rt, items.next_item::<Value>(), rule, offset)
 }
 
-fn faults<R: Source>(items: &mut RuledStream<'_, R>, words: &str) -> Done {
+fn faults<R: Source>(items: &mut RuledStream<'_, R>, words: &str) -> Verdict {
     let e = error_of(items.next_item::<Value>())?;
     is_refused::<()>(Err(e), words)
 }
 
-fn misfits<R: Source>(items: &mut RuledStream<'_, R>, words: &str) -> Done {
+fn misfits<R: Source>(items: &mut RuledStream<'_, R>, words: &str) -> Verdict {
     let e = error_of(items.next_item::<(u8, u8)>())?;
     is_refused::<()>(Err(e), words)
 }
 
-fn ends<R: Source>(rt: &impl Abort, items: &mut RuledStream<'_, R>) -> Done {
+fn ends<R: Source>(rt: &impl Abort, items: &mut RuledStream<'_, R>) -> Verdict {
     assert!(rt; value_of(items.next_item::<Value>())?.is_none());
     Ok(())
 }
@@ -71,7 +71,7 @@ fn plays<R: Source + Offset>(
     rt: &impl Abort,
     items: &mut RuledStream<'_, R>,
     steps: &[Step<'_>],
-) -> Done {
+) -> Verdict {
     for step in steps {
         match *step {
             Number(number) => is_number(rt, items, number)?,
@@ -87,7 +87,13 @@ fn plays<R: Source + Offset>(
 }
 
 /// From a reader of these bytes comes what the steps say.
-fn gives(rt: &impl Abort, alloc: Global, bytes: &[u8], rules: Rules, steps: &[Step<'_>]) -> Done {
+fn gives(
+    rt: &impl Abort,
+    alloc: Global,
+    bytes: &[u8],
+    rules: Rules,
+    steps: &[Step<'_>],
+) -> Verdict {
     plays(
         rt,
         &mut RuledStream::from_reader(alloc, bytes, rules),
@@ -97,7 +103,7 @@ fn gives(rt: &impl Abort, alloc: Global, bytes: &[u8], rules: Rules, steps: &[St
 
 // 1000, "IETF" and -1 (RFC 8949, Appendix A)
 #[test]
-fn reads_items_of_a_reader(rt: HostRuntime) -> Done {
+fn reads_items_of_a_reader(rt: HostRuntime) -> Verdict {
     let bytes = b"\x19\x03\xe8\x64IETF\x20";
     let steps = [Number(1000), Text("IETF"), Taken(8), Number(-1), Ends, Ends];
     gives(&rt, rt.alloc(), bytes, Rules::DETERMINISTIC, &steps)
@@ -105,7 +111,7 @@ fn reads_items_of_a_reader(rt: HostRuntime) -> Done {
 
 // The same, with a head for "IETF" that isn't the shortest.
 #[test]
-fn ends_with_a_departure(rt: HostRuntime) -> Done {
+fn ends_with_a_departure(rt: HostRuntime) -> Verdict {
     let alloc = rt.alloc();
     let source = SliceRead::new(alloc, b"\x19\x03\xe8\x78\x04IETF\x20");
     let mut items = RuledStream::new(alloc, source, Rules::CTAP2);
@@ -116,7 +122,7 @@ fn ends_with_a_departure(rt: HostRuntime) -> Done {
 // Offsets count from the beginning of the input: of bytes that are no item, and of an array that has
 // one item more than the type reads. A message has none.
 #[test]
-fn ends_with_what_is_not_read(rt: HostRuntime) -> Done {
+fn ends_with_what_is_not_read(rt: HostRuntime) -> Verdict {
     let alloc = rt.alloc();
     let faulty = b"\x01\x82\x01\x1c";
     let steps = [Number(1), Faults("unassigned type at offset 4"), Ends];
@@ -133,7 +139,7 @@ fn ends_with_what_is_not_read(rt: HostRuntime) -> Done {
 
 // A tag that stands, and one that doesn't.
 #[test]
-fn takes_tags_that_stand(rt: HostRuntime) -> Done {
+fn takes_tags_that_stand(rt: HostRuntime) -> Verdict {
     let alloc = rt.alloc();
     let source = SliceRead::new(alloc, b"\xc1\x1a\x51\x4b\x67\xb0\xc2\x40");
     let mut items = RuledStream::with_tags(alloc, source, Rules::CTAP2, &[0, 1]);
@@ -143,7 +149,7 @@ fn takes_tags_that_stand(rt: HostRuntime) -> Done {
 
 // What came whole is given, before the byte after it is asked for. A fault is told once.
 #[test]
-fn gives_what_comes_before_a_fault(rt: HostRuntime) -> Done {
+fn gives_what_comes_before_a_fault(rt: HostRuntime) -> Verdict {
     let reader = Failing {
         bytes: b"\x01\x18\x2a",
     };
@@ -159,7 +165,7 @@ const LIMITS: Rules = Rules {
 
 // A peer that never ends: an array of at most two items is refused with its third, byte 5 of all.
 #[test]
-fn refuses_an_endless_array(rt: HostRuntime) -> Done {
+fn refuses_an_endless_array(rt: HostRuntime) -> Verdict {
     let peer = Endless {
         bytes: b"\x01\x9f\x01\x02\x03",
         given: 0,

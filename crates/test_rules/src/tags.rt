@@ -5,7 +5,7 @@ use cbor_io::error::{Error, ErrorCode};
 use cbor_rules::{Departure, Refusal, Rule};
 use std::fmt::InlineText;
 use std::process::Abort;
-use test_checks::Done;
+use test_checks::Verdict;
 
 const TIME: &[u8] = b"\xc1\x1a\x51\x4b\x67\xb0";
 
@@ -33,7 +33,7 @@ const TAGGED: &[(&[u64], &[u8], Option<u64>)] = &[
 ];
 
 #[test]
-fn reads_tags_of_the_list_alone(rt: HostRuntime) -> Done {
+fn reads_tags_of_the_list_alone(rt: HostRuntime) -> Verdict {
     for (tags, bytes, another) in TAGGED {
         has_tags(&rt, rt.alloc(), tags, bytes, *another)?;
     }
@@ -63,7 +63,7 @@ fn is_printed(rt: &impl Abort, refusal: &Refusal, text: &str) {
 }
 
 #[test]
-fn prints_departures(rt: HostRuntime) -> Done {
+fn prints_departures(rt: HostRuntime) -> Verdict {
     for (rule, text) in PRINTED {
         let departure = Departure {
             rule: *rule,

@@ -3,7 +3,7 @@
 use crate::checks::Verdict::Departs;
 use crate::checks::{Row, all_depart, all_keep, all_pass, departs, judges, keeps};
 use cbor_rules::{Rule, Rules};
-use test_checks::Done;
+use test_checks::Verdict;
 
 const TWICE: Rule = Rule::UniqueKeys;
 
@@ -52,14 +52,14 @@ const UNIQUE: &[&[u8]] = &[
 ];
 
 #[test]
-fn refuses_a_key_twice(rt: HostRuntime) -> Done {
+fn refuses_a_key_twice(rt: HostRuntime) -> Verdict {
     all_depart(&rt, rt.alloc(), Rules::UNIQUE_KEYS, TWICE, DUPLICATES)?;
     // which is read otherwise
     all_pass(rt.alloc(), Rules::ANY, DUPLICATES)
 }
 
 #[test]
-fn reads_keys_in_any_order(rt: HostRuntime) -> Done {
+fn reads_keys_in_any_order(rt: HostRuntime) -> Verdict {
     all_keep(rt.alloc(), Rules::UNIQUE_KEYS, UNIQUE)
 }
 
@@ -84,13 +84,13 @@ const BOTH: &[Row] = &[
 ];
 
 #[test]
-fn returns_the_first_departure(rt: HostRuntime) -> Done {
+fn returns_the_first_departure(rt: HostRuntime) -> Verdict {
     judges(&rt, rt.alloc(), BOTH)
 }
 
 // 600 keys from the greatest to the least, and then one of them again, in a longer head.
 #[test]
-fn reads_many_keys(rt: HostRuntime) -> Done {
+fn reads_many_keys(rt: HostRuntime) -> Verdict {
     let mut bytes = Vec::new(rt.alloc());
     bytes.push(0xbf)?;
     for n in 0..600u16 {

@@ -9,27 +9,32 @@ use cbor_value::{Float, Map, Value};
 use std::alloc::Global;
 use std::process::Abort;
 use std::test::Fail;
-use test_checks::{Done, is_refused};
+use test_checks::{Verdict, is_refused};
 
 const UNSTORED: &str = "The number can't be stored in CBOR";
 
 const TOO_DEEP: &str = "recursion limit exceeded at offset 128";
 
 /// What is read is the value that these bytes encode.
-fn has_read(rt: &impl Abort, alloc: Global, answer: Result<Value, Refusal>, bytes: &[u8]) -> Done {
+fn has_read(
+    rt: &impl Abort,
+    alloc: Global,
+    answer: Result<Value, Refusal>,
+    bytes: &[u8],
+) -> Verdict {
     let expected: Value = from_slice(alloc, bytes)?;
     assert!(rt; value_of(answer)? == expected);
     Ok(())
 }
 
 /// It is refused with these words, and not for a departure.
-fn is_unread(answer: Result<Value, Refusal>, words: &str) -> Done {
+fn is_unread(answer: Result<Value, Refusal>, words: &str) -> Verdict {
     let e = error_of(answer)?;
     is_refused::<Value>(Err(e), words)
 }
 
 /// Each form refuses the value with these words, dCBOR with its own.
-fn none_has_read(alloc: Global, value: &Value, words: &str, in_dcbor: &str) -> Done {
+fn none_has_read(alloc: Global, value: &Value, words: &str, in_dcbor: &str) -> Verdict {
     is_unread(write_and_read_deterministic(alloc, value), words)?;
     is_unread(write_and_read_length_first(alloc, value), words)?;
     is_unread(write_and_read_dcbor(alloc, value), in_dcbor)
@@ -47,7 +52,7 @@ fn nested(alloc: Global, levels: u8) -> Result<Value, Fail> {
 // 1.5 and -4.0 of 64 bits, of which RFC 8949, Appendix A, has the shortest encodings; in dCBOR
 // -4.0 is -4.
 #[test]
-fn reads_back_what_a_form_writes(rt: HostRuntime) -> Done {
+fn reads_back_what_a_form_writes(rt: HostRuntime) -> Verdict {
     let alloc = rt.alloc();
     let numbers = (1.5f64, -4.0f64);
     let shortest = b"\x82\xf9\x3e\0\xf9\xc4\0";
@@ -62,7 +67,7 @@ fn reads_back_what_a_form_writes(rt: HostRuntime) -> Done {
 // docs/FORMAT.md has the words: 2^64; 1.0 of 16 and of 32 bits as keys; and -2^63 - 1, which dCBOR
 // alone doesn't have.
 #[test]
-fn tells_why_a_form_writes_nothing(rt: HostRuntime) -> Done {
+fn tells_why_a_form_writes_nothing(rt: HostRuntime) -> Verdict {
     let alloc = rt.alloc();
     none_has_read(alloc, &Value::Integer(1 << 64), UNSTORED, UNSTORED)?;
     let pairs = vec![in alloc;
@@ -86,7 +91,7 @@ fn tells_why_a_form_writes_nothing(rt: HostRuntime) -> Done {
 
 // 127 arrays are read; of 128, the head of the last ends at offset 128.
 #[test]
-fn tells_what_is_nested_too_deep(rt: HostRuntime) -> Done {
+fn tells_what_is_nested_too_deep(rt: HostRuntime) -> Verdict {
     let alloc = rt.alloc();
     none_has_read(alloc, &nested(alloc, 128)?, TOO_DEEP, TOO_DEEP)?;
     let value = nested(alloc, 127)?;

@@ -6,7 +6,7 @@ use serde::{Described, Serialize, Serializer};
 use std::alloc::Global;
 use std::collections::BTreeMap;
 use std::process::Abort;
-use test_checks::Done;
+use test_checks::Verdict;
 
 // Which options are asked for.
 #[derive(Clone, Copy)]
@@ -81,7 +81,7 @@ const LONG: Fields = Fields {
 };
 
 /// The fields are written as these bytes by those options.
-fn all_are_written(rt: &impl Abort, alloc: Global, rows: &[(With, Fields, &[u8])]) -> Done {
+fn all_are_written(rt: &impl Abort, alloc: Global, rows: &[(With, Fields, &[u8])]) -> Verdict {
     for (with, fields, bytes) in rows {
         is_written_with(rt, options_of(*with), alloc, fields, bytes)?;
     }
@@ -95,7 +95,7 @@ const WITHOUT_NAMES: &[(With, Fields, &[u8])] = &[
 ];
 
 #[test]
-fn writes_fields_without_names(rt: HostRuntime) -> Done {
+fn writes_fields_without_names(rt: HostRuntime) -> Verdict {
     all_are_written(&rt, rt.alloc(), WITHOUT_NAMES)
 }
 
@@ -105,7 +105,7 @@ const MAPS: &[(With, Fields, &[u8])] = &[
 ];
 
 #[test]
-fn keeps_maps(rt: HostRuntime) -> Done {
+fn keeps_maps(rt: HostRuntime) -> Verdict {
     let alloc = rt.alloc();
     all_are_written(&rt, alloc, MAPS)?;
     let mut map = BTreeMap::new(alloc);
@@ -120,7 +120,7 @@ const NO_ARRAYS: &[(Fields, &str)] = &[
 ];
 
 #[test]
-fn refuses_what_is_no_array(rt: HostRuntime) -> Done {
+fn refuses_what_is_no_array(rt: HostRuntime) -> Verdict {
     for (row, (fields, words)) in NO_ARRAYS.iter().enumerate() {
         let answer = to_vec_with(options_of(With::Arrays), rt.alloc(), fields);
         is_refused_at(row, answer, words)?;
@@ -149,7 +149,7 @@ const NAMED: &[(With, &[u8])] = &[
 ];
 
 #[test]
-fn names_variants_by_integers(rt: HostRuntime) -> Done {
+fn names_variants_by_integers(rt: HostRuntime) -> Verdict {
     for (with, bytes) in NAMED {
         is_written_with(&rt, options_of(*with), rt.alloc(), &Variants, bytes)?;
     }

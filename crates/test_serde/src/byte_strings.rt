@@ -8,7 +8,7 @@ use cbor_serde::{
 use serde::{Deserialize, Serialize};
 use std::alloc::Global;
 use std::process::Abort;
-use test_checks::Done;
+use test_checks::Verdict;
 
 #[derive(Debug, Drop, PartialEq, Serialize, Deserialize)]
 struct Parcel {
@@ -27,7 +27,7 @@ fn read_parcel(alloc: Global) -> Answer<Parcel> {
 }
 
 #[test]
-fn are_fields(rt: HostRuntime) -> Done {
+fn are_fields(rt: HostRuntime) -> Verdict {
     let alloc = rt.alloc();
     let parcel = read_parcel(alloc)?;
     assert_eq!(rt; parcel.key.0.as_slice(), [1, 2, 3, 4].as_slice());
@@ -41,7 +41,7 @@ fn are_fields(rt: HostRuntime) -> Done {
 
 // RFC 7049, Appendix A: h'', h'01020304', and (_ h'0102', h'030405').
 #[test]
-fn are_byte_strings(rt: HostRuntime) -> Done {
+fn are_byte_strings(rt: HostRuntime) -> Verdict {
     let alloc = rt.alloc();
     let empty: ByteBuf = from_slice(alloc, b"\x40")?;
     is_written(&rt, alloc, &empty, b"\x40")?;
@@ -51,7 +51,7 @@ fn are_byte_strings(rt: HostRuntime) -> Done {
 }
 
 #[test]
-fn are_one_string_of_chunks(rt: HostRuntime) -> Done {
+fn are_one_string_of_chunks(rt: HostRuntime) -> Verdict {
     let alloc = rt.alloc();
     let chunks: ByteArray<5> = from_slice(alloc, b"\x5f\x42\x01\x02\x43\x03\x04\x05\xff")?;
     assert_eq!(rt;
@@ -101,7 +101,7 @@ const NOTHING_ELSE: &[(As, &[u8], &str)] = &[
 ];
 
 #[test]
-fn are_nothing_else(rt: HostRuntime) -> Done {
+fn are_nothing_else(rt: HostRuntime) -> Verdict {
     for (row, (of, bytes, words)) in NOTHING_ELSE.iter().enumerate() {
         is_refused_at(row, reads(rt.alloc(), bytes, *of), words)?;
     }
@@ -122,7 +122,7 @@ const DOUBLE: &[u8] = b"\xfb\x3f\xf1\x99\x99\x99\x99\x99\x9a";
 const WHOLE: &[u8] = b"\x1a\0\x01\x86\xa0";
 
 #[test]
-fn keeps_the_numbers_of_floats(rt: HostRuntime) -> Done {
+fn keeps_the_numbers_of_floats(rt: HostRuntime) -> Verdict {
     let alloc = rt.alloc();
     assert_eq!(rt; read_float(alloc, HALF)?, FloatItem(Float::from(1.5f64)));
     let single = read_float(alloc, SINGLE)?;
@@ -133,7 +133,7 @@ fn keeps_the_numbers_of_floats(rt: HostRuntime) -> Done {
 
 // The last is written by the option for shortest floats.
 #[test]
-fn keeps_the_width_of_floats(rt: HostRuntime) -> Done {
+fn keeps_the_width_of_floats(rt: HostRuntime) -> Verdict {
     let alloc = rt.alloc();
     is_written(&rt, alloc, &read_float(alloc, DOUBLE)?, DOUBLE)?;
     is_written(&rt, alloc, &FloatItem(Float::Single(0x47c3_5000)), SINGLE)?;
@@ -143,7 +143,7 @@ fn keeps_the_width_of_floats(rt: HostRuntime) -> Done {
 
 // JSON has no byte strings: the kit's `serde_json` writes and reads an array of numbers.
 #[test]
-fn go_to_json(rt: HostRuntime) -> Done {
+fn go_to_json(rt: HostRuntime) -> Verdict {
     let alloc = rt.alloc();
     let parcel = read_parcel(alloc)?;
     let text = serde_json::to_string(alloc, &parcel)?;
@@ -157,7 +157,7 @@ fn go_to_json(rt: HostRuntime) -> Done {
 }
 
 #[test]
-fn are_lent_by_json(rt: HostRuntime) -> Done {
+fn are_lent_by_json(rt: HostRuntime) -> Verdict {
     let lent: Bytes = serde_json::from_str(rt.alloc(), "\"IETF\"")?;
     assert_eq!(rt; lent, Bytes(b"IETF"));
     Ok(())

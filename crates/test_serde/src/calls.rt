@@ -7,11 +7,11 @@ use cbor_serde::{
 };
 use std::alloc::Global;
 use std::collections::BTreeMap;
-use test_checks::{Done, is_refused};
+use test_checks::{Verdict, is_refused};
 
 // RFC 7049, Appendix A: [1, [2, 3], [4, 5]] and "IETF".
 #[test]
-fn writes_and_reads(rt: HostRuntime) -> Done {
+fn writes_and_reads(rt: HostRuntime) -> Verdict {
     let alloc = rt.alloc();
     let nested = (1u8, (2u8, 3u8), (4u8, 5u8));
     let bytes = b"\x83\x01\x82\x02\x03\x82\x04\x05";
@@ -21,7 +21,7 @@ fn writes_and_reads(rt: HostRuntime) -> Done {
 }
 
 #[test]
-fn reads_from_a_reader(rt: HostRuntime) -> Done {
+fn reads_from_a_reader(rt: HostRuntime) -> Verdict {
     let number: u32 = from_reader(rt.alloc(), b"\x1a\x00\x0f\x42\x40".as_slice())?;
     assert_eq!(rt; number, 1000000);
     Ok(())
@@ -29,7 +29,7 @@ fn reads_from_a_reader(rt: HostRuntime) -> Done {
 
 // RFC 7049, section 3.9: the keys in the order of their encodings.
 #[test]
-fn writes_canonically(rt: HostRuntime) -> Done {
+fn writes_canonically(rt: HostRuntime) -> Verdict {
     let alloc = rt.alloc();
     let mut map = BTreeMap::new(alloc);
     map.insert(-1i16, 1u8)?;
@@ -44,7 +44,7 @@ fn canonical(alloc: Global, bytes: &[u8]) -> Answer<BTreeMap<i16, u8>> {
 }
 
 #[test]
-fn reads_canonical_bytes_alone(rt: HostRuntime) -> Done {
+fn reads_canonical_bytes_alone(rt: HostRuntime) -> Verdict {
     let alloc = rt.alloc();
     assert_eq!(rt; canonical(alloc, b"\xa2\x0a\x02\x20\x01")?.len(), 2);
     is_refused(
@@ -54,7 +54,7 @@ fn reads_canonical_bytes_alone(rt: HostRuntime) -> Done {
 }
 
 #[test]
-fn appends_to_a_sink(rt: HostRuntime) -> Done {
+fn appends_to_a_sink(rt: HostRuntime) -> Verdict {
     let alloc = rt.alloc();
     let mut room = [0; 4];
     let mut out = SliceWrite::new(&mut room);
@@ -71,7 +71,7 @@ fn appends_to_a_sink(rt: HostRuntime) -> Done {
 }
 
 #[test]
-fn makes_and_reads_values(rt: HostRuntime) -> Done {
+fn makes_and_reads_values(rt: HostRuntime) -> Verdict {
     let alloc = rt.alloc();
     let value = to_value(alloc, &(true, -5i8))?;
     let expected = vec![in alloc; Value::Bool(true), Value::Integer(-5)]?;
@@ -87,14 +87,14 @@ fn nested(alloc: Global, levels: u8) -> Answer<((u8,),)> {
 
 // [[1]] nests two levels.
 #[test]
-fn counts_levels(rt: HostRuntime) -> Done {
+fn counts_levels(rt: HostRuntime) -> Verdict {
     let alloc = rt.alloc();
     assert_eq!(rt; nested(alloc, 2)?, ((1,),));
     is_refused(nested(alloc, 1), "recursion limit exceeded at offset 2")
 }
 
 #[test]
-fn gives_levels_back_between_arrays(rt: HostRuntime) -> Done {
+fn gives_levels_back_between_arrays(rt: HostRuntime) -> Verdict {
     let two = Options::new().nesting_limit(2);
     let beside: ((u8,), (u8,)) = from_slice_with(two, rt.alloc(), b"\x82\x81\x01\x81\x02")?;
     assert_eq!(rt; beside, ((1,), (2,)));
@@ -139,7 +139,7 @@ const MISFITS: &[(As, &[u8], &str)] = &[
 ];
 
 #[test]
-fn refuses_what_does_not_fit(rt: HostRuntime) -> Done {
+fn refuses_what_does_not_fit(rt: HostRuntime) -> Verdict {
     for (row, (of, bytes, words)) in MISFITS.iter().enumerate() {
         is_refused_at(row, reads(rt.alloc(), bytes, *of), words)?;
     }

@@ -7,10 +7,15 @@ use std::alloc::Global;
 use std::fmt::InlineText;
 use std::process::Abort;
 use std::test::Fail;
-use test_checks::Done;
+use test_checks::Verdict;
 
 /// The value is written as these bytes.
-pub fn is_written<T: Serialize>(rt: &impl Abort, alloc: Global, value: &T, bytes: &[u8]) -> Done {
+pub fn is_written<T: Serialize>(
+    rt: &impl Abort,
+    alloc: Global,
+    value: &T,
+    bytes: &[u8],
+) -> Verdict {
     let written = to_vec(alloc, value)?;
     assert_eq!(rt; written.as_slice(), bytes);
     Ok(())
@@ -23,7 +28,7 @@ pub fn is_written_with<T: Serialize>(
     alloc: Global,
     value: &T,
     bytes: &[u8],
-) -> Done {
+) -> Verdict {
     let written = to_vec_with(options, alloc, value)?;
     assert_eq!(rt; written.as_slice(), bytes);
     Ok(())
@@ -35,14 +40,14 @@ pub fn is_read<'a, T: Deserialize<'a> + PartialEq>(
     alloc: Global,
     bytes: &'a [u8],
     expected: T,
-) -> Done {
+) -> Verdict {
     let value: T = from_slice(alloc, bytes)?;
     assert!(rt; value == expected, "{bytes:?}");
     Ok(())
 }
 
 /// The call of this row was refused, with these words, for which no memory is taken.
-pub fn is_refused_at<T: Drop>(row: usize, answer: Answer<T>, words: &str) -> Done {
+pub fn is_refused_at<T: Drop>(row: usize, answer: Answer<T>, words: &str) -> Verdict {
     let Err(e) = answer else {
         return Err(Fail::new(format_args!("row {row}: not refused")));
     };

@@ -4,7 +4,7 @@ use cbor_serde::{ErrorCode, Result as Answer, from_reader};
 use std::io;
 use std::process::Abort;
 use std::test::Fail;
-use test_checks::Done;
+use test_checks::Verdict;
 
 // It gives one byte, and then fails.
 #[derive(Drop)]
@@ -24,7 +24,7 @@ impl io::Read for Failing {
 }
 
 // The call was refused for the reader's fault, of its kind.
-pub fn is_its_fault<T: Drop>(rt: &impl Abort, answer: Answer<T>) -> Done {
+pub fn is_its_fault<T: Drop>(rt: &impl Abort, answer: Answer<T>) -> Verdict {
     let Err(e) = answer else {
         return Err(Fail::from("no fault"));
     };
@@ -37,7 +37,7 @@ pub fn is_its_fault<T: Drop>(rt: &impl Abort, answer: Answer<T>) -> Done {
 }
 
 #[test]
-fn passes_on_a_fault(rt: HostRuntime) -> Done {
+fn passes_on_a_fault(rt: HostRuntime) -> Verdict {
     is_its_fault(
         &rt,
         from_reader::<Failing, u8>(rt.alloc(), Failing { given: false }),

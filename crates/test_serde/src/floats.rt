@@ -2,10 +2,10 @@
 
 use crate::checks::{is_written, is_written_with};
 use cbor_serde::Options;
-use test_checks::Done;
+use test_checks::Verdict;
 
 #[test]
-fn keeps_their_width(rt: HostRuntime) -> Done {
+fn keeps_their_width(rt: HostRuntime) -> Verdict {
     let doubles: [(f64, &[u8]); 2] = [
         (1.1, b"\xfb\x3f\xf1\x99\x99\x99\x99\x99\x9a"),
         (f64::INFINITY, b"\xfb\x7f\xf0\0\0\0\0\0\0"),
@@ -17,7 +17,7 @@ fn keeps_their_width(rt: HostRuntime) -> Done {
 }
 
 #[test]
-fn shortens_them(rt: HostRuntime) -> Done {
+fn shortens_them(rt: HostRuntime) -> Verdict {
     let shortest: [(f64, &[u8]); 8] = [
         (1.5, b"\xf9\x3e\0"),
         (65504.0, b"\xf9\x7b\xff"),

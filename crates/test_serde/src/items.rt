@@ -5,7 +5,7 @@ use cbor_serde::{
     Float, Item, Options, Result as Answer, Value, from_reader, from_slice, from_slice_with, to_vec,
 };
 use std::alloc::Global;
-use test_checks::{Done, is_refused};
+use test_checks::{Verdict, is_refused};
 
 fn read_item(alloc: Global, bytes: &[u8]) -> Answer<Item> {
     from_slice(alloc, bytes)
@@ -28,7 +28,7 @@ const ITEMS: [&[u8]; 12] = [
 ];
 
 #[test]
-fn reads_and_writes_items(rt: HostRuntime) -> Done {
+fn reads_and_writes_items(rt: HostRuntime) -> Verdict {
     let alloc = rt.alloc();
     for bytes in &ITEMS {
         let read = read_item(alloc, bytes)?;
@@ -41,7 +41,7 @@ fn reads_and_writes_items(rt: HostRuntime) -> Done {
 
 // The same values from outside, where the encoding has a choice.
 #[test]
-fn reads_other_encodings(rt: HostRuntime) -> Done {
+fn reads_other_encodings(rt: HostRuntime) -> Verdict {
     let alloc = rt.alloc();
     let tagged = read_item(alloc, b"\xc1\x1a\x51\x4b\x67\xb0")?;
     assert_eq!(rt; tagged.0, Value::Integer(1363896240));
@@ -60,7 +60,7 @@ const OTHERWISE: &[(&[u8], &[u8])] = &[
 ];
 
 #[test]
-fn writes_other_encodings_as_its_own(rt: HostRuntime) -> Done {
+fn writes_other_encodings_as_its_own(rt: HostRuntime) -> Verdict {
     for (bytes, written) in OTHERWISE {
         is_written(&rt, rt.alloc(), &read_item(rt.alloc(), bytes)?, written)?;
     }
@@ -69,7 +69,7 @@ fn writes_other_encodings_as_its_own(rt: HostRuntime) -> Done {
 
 // Where names may be integers, an integer is one still.
 #[test]
-fn reads_integers_as_such(rt: HostRuntime) -> Done {
+fn reads_integers_as_such(rt: HostRuntime) -> Verdict {
     let bytes = b"\x83\x05\x26\x61\x35";
     let integers = Options::new().integer_keys();
     let item: Item = from_slice_with(integers, rt.alloc(), bytes)?;
@@ -77,7 +77,7 @@ fn reads_integers_as_such(rt: HostRuntime) -> Done {
 }
 
 #[test]
-fn writes_floats_and_refuses_tags(rt: HostRuntime) -> Done {
+fn writes_floats_and_refuses_tags(rt: HostRuntime) -> Verdict {
     let alloc = rt.alloc();
     let half = Item(Value::Float(Float::Half(0x3e00)));
     is_written(&rt, alloc, &half, b"\xfa\x3f\xc0\0\0")?;
@@ -91,7 +91,7 @@ const NO_ITEMS: &[(&[u8], &str)] = &[
 ];
 
 #[test]
-fn refuses_what_is_no_item(rt: HostRuntime) -> Done {
+fn refuses_what_is_no_item(rt: HostRuntime) -> Verdict {
     for (row, (bytes, words)) in NO_ITEMS.iter().enumerate() {
         is_refused_at(row, read_item(rt.alloc(), bytes), words)?;
     }
@@ -101,7 +101,7 @@ fn refuses_what_is_no_item(rt: HostRuntime) -> Done {
 // RFC 8259, of items of RFC 7049, Appendix A: literals, numbers, a string whose characters are
 // escaped, arrays and an object.
 #[test]
-fn go_to_json(rt: HostRuntime) -> Done {
+fn go_to_json(rt: HostRuntime) -> Verdict {
     let alloc = rt.alloc();
     for (bytes, text) in [
         (b"\xf6".as_slice(), "null"),

@@ -2,7 +2,7 @@
 
 use cbor_serde::{from_reader, from_slice, from_slice_canonical, to_vec, to_vec_canonical};
 use std::alloc::{AllocError, Global};
-use test_checks::Done;
+use test_checks::Verdict;
 
 /// A head, and this byte 65,536 times after it.
 fn long(alloc: Global, head: &[u8], byte: u8) -> Result<Vec<u8>, AllocError> {
@@ -15,7 +15,7 @@ fn long(alloc: Global, head: &[u8], byte: u8) -> Result<Vec<u8>, AllocError> {
 }
 
 #[test]
-fn writes_and_reads_a_long_text(rt: HostRuntime) -> Done {
+fn writes_and_reads_a_long_text(rt: HostRuntime) -> Verdict {
     let alloc = rt.alloc();
     let bytes = long(alloc, b"\x7a\0\x01\0\0", b'a')?;
     let text: &str = from_slice_canonical(alloc, &bytes)?;
@@ -27,7 +27,7 @@ fn writes_and_reads_a_long_text(rt: HostRuntime) -> Done {
 }
 
 #[test]
-fn writes_and_reads_a_long_list(rt: HostRuntime) -> Done {
+fn writes_and_reads_a_long_list(rt: HostRuntime) -> Verdict {
     let alloc = rt.alloc();
     let bytes = long(alloc, b"\x9a\0\x01\0\0", 7)?;
     let list: Vec<u8> = from_slice(alloc, &bytes)?;

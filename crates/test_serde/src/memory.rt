@@ -9,7 +9,7 @@ use serde::{Deserialize, Serialize};
 use std::alloc::Global;
 use std::fmt::Debug;
 use std::process::Abort;
-use test_checks::{Done, is_refused};
+use test_checks::{Verdict, is_refused};
 
 // The bytes are read as what is shown so, and written again, floats in the shortest width: rows of
 // crates/derived_rows/data, or a part of one.
@@ -18,7 +18,7 @@ fn is_read_and_written<'a, T: Deserialize<'a> + Serialize + Debug>(
     alloc: Global,
     bytes: &'a [u8],
     shown: &str,
-) -> Done {
+) -> Verdict {
     let value: T = from_slice(alloc, bytes)?;
     assert_eq!(rt; format!(in alloc; "{value:?}")?.as_str(), shown);
     let shortest = Options::new().shortest_floats();
@@ -28,7 +28,7 @@ fn is_read_and_written<'a, T: Deserialize<'a> + Serialize + Debug>(
 }
 
 #[test]
-fn reads_and_writes_shapes(rt: HostRuntime) -> Done {
+fn reads_and_writes_shapes(rt: HostRuntime) -> Verdict {
     for (bytes, shown) in [
         (b"\x63dot".as_slice(), "Dot"),
         (b"\xa1\x66circle\xfa\x3f\x8c\xcc\xcd", "Circle(1.1)"),
@@ -44,7 +44,7 @@ fn reads_and_writes_shapes(rt: HostRuntime) -> Done {
 }
 
 #[test]
-fn reads_and_writes_events(rt: HostRuntime) -> Done {
+fn reads_and_writes_events(rt: HostRuntime) -> Verdict {
     for (bytes, shown) in [
         (
             b"\xa2\x64type\x65Start\x62at\x05".as_slice(),
@@ -58,7 +58,7 @@ fn reads_and_writes_events(rt: HostRuntime) -> Done {
 }
 
 #[test]
-fn reads_and_writes_answers(rt: HostRuntime) -> Done {
+fn reads_and_writes_answers(rt: HostRuntime) -> Verdict {
     for (bytes, shown) in [
         (
             b"\xa2\x61t\x66Shapes\x61c\x83\x63dot\xa1\x66circle\xf9\x3e\0\
@@ -75,7 +75,7 @@ fn reads_and_writes_answers(rt: HostRuntime) -> Done {
 }
 
 #[test]
-fn reads_and_writes_notes(rt: HostRuntime) -> Done {
+fn reads_and_writes_notes(rt: HostRuntime) -> Verdict {
     for (bytes, shown) in [
         (b"\x09".as_slice(), "Number(9)"),
         (b"\x63abc", "Text(\"abc\")"),
@@ -86,7 +86,7 @@ fn reads_and_writes_notes(rt: HostRuntime) -> Done {
 }
 
 #[test]
-fn reads_and_writes_folders(rt: HostRuntime) -> Done {
+fn reads_and_writes_folders(rt: HostRuntime) -> Verdict {
     is_read_and_written::<Folder>(
         &rt,
         rt.alloc(),
@@ -99,7 +99,7 @@ fn reads_and_writes_folders(rt: HostRuntime) -> Done {
 
 // For its number and for want of memory the pair is refused before the sink has a byte of it.
 #[test]
-fn leaves_a_sink_as_it_was(rt: HostRuntime) -> Done {
+fn leaves_a_sink_as_it_was(rt: HostRuntime) -> Verdict {
     let mut room = [0; 16];
     let mut out = SliceWrite::new(&mut room);
     let answer = to_writer(rt.alloc(), &mut out, &(true, 1i128 << 64));
@@ -111,7 +111,7 @@ fn leaves_a_sink_as_it_was(rt: HostRuntime) -> Done {
 
 // RFC 7049, Appendix A: true, null, "ü" and 1(1363896240).
 #[test]
-fn reads_plain_items_without_memory(rt: HostRuntime) -> Done {
+fn reads_plain_items_without_memory(rt: HostRuntime) -> Verdict {
     let alloc = rt.alloc();
     is_read(&rt, alloc, b"\xf5", true)?;
     is_read(&rt, alloc, b"\xf6", ())?;
@@ -121,7 +121,7 @@ fn reads_plain_items_without_memory(rt: HostRuntime) -> Done {
 
 // RFC 7049, Appendix A: 0, 2^64 - 1, -1000 and -2^64.
 #[test]
-fn reads_integers_without_memory(rt: HostRuntime) -> Done {
+fn reads_integers_without_memory(rt: HostRuntime) -> Verdict {
     let alloc = rt.alloc();
     is_read(&rt, alloc, b"\x00", 0u8)?;
     is_read(
@@ -141,7 +141,7 @@ fn reads_integers_without_memory(rt: HostRuntime) -> Done {
 
 // RFC 7049, Appendix A: 1.5, 100000.0 and 1.1 in 16, 32 and 64 bits, and 1.
 #[test]
-fn reads_floats_without_memory(rt: HostRuntime) -> Done {
+fn reads_floats_without_memory(rt: HostRuntime) -> Verdict {
     let alloc = rt.alloc();
     is_read(&rt, alloc, b"\xf9\x3e\0", 1.5f32)?;
     for (bytes, number) in [
@@ -156,7 +156,7 @@ fn reads_floats_without_memory(rt: HostRuntime) -> Done {
 
 // The second has a head of two bytes.
 #[test]
-fn reads_lent_strings_without_memory(rt: HostRuntime) -> Done {
+fn reads_lent_strings_without_memory(rt: HostRuntime) -> Verdict {
     let alloc = rt.alloc();
     for bytes in [b"\x64IETF".as_slice(), b"\x78\x04IETF"] {
         is_read(&rt, alloc, bytes, "IETF")?;
@@ -170,7 +170,7 @@ fn reads_lent_strings_without_memory(rt: HostRuntime) -> Done {
 }
 
 #[test]
-fn reads_options_without_memory(rt: HostRuntime) -> Done {
+fn reads_options_without_memory(rt: HostRuntime) -> Verdict {
     let alloc = rt.alloc();
     for (bytes, text) in [(b"\xf6".as_slice(), None), (b"\x64IETF", Some("IETF"))] {
         is_read::<Option<&str>>(&rt, alloc, bytes, text)?;
@@ -181,6 +181,6 @@ fn reads_options_without_memory(rt: HostRuntime) -> Done {
 
 // A variant that holds nothing, of an enum of others that do.
 #[test]
-fn reads_a_name_without_memory(rt: HostRuntime) -> Done {
+fn reads_a_name_without_memory(rt: HostRuntime) -> Verdict {
     is_read(&rt, rt.alloc(), b"\x63dot", Shape::Dot)
 }

@@ -4,7 +4,7 @@ use cbor_serde::{SliceWrite, to_value, to_vec, to_vec_canonical, to_writer};
 use serde::{Described, Serialize, Serializer};
 use std::alloc::Global;
 use std::cell::Cell;
-use test_checks::Done;
+use test_checks::Verdict;
 
 // It is true, and counts how often it was sent.
 #[derive(Drop)]
@@ -30,7 +30,7 @@ enum To {
     Slice,
 }
 
-fn give(alloc: Global, counted: &Counted, to: To) -> Done {
+fn give(alloc: Global, counted: &Counted, to: To) -> Verdict {
     match to {
         To::Vector => {
             to_vec(alloc, counted)?;
@@ -48,7 +48,7 @@ fn give(alloc: Global, counted: &Counted, to: To) -> Done {
 }
 
 #[test]
-fn sends_a_value_once(rt: HostRuntime) -> Done {
+fn sends_a_value_once(rt: HostRuntime) -> Verdict {
     for to in [
         To::Vector,
         To::CanonicalVector,

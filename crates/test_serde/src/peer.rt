@@ -4,7 +4,7 @@ use cbor_serde::{Item, Stream};
 use std::alloc::Global;
 use std::io;
 use std::process::Abort;
-use test_checks::Done;
+use test_checks::Verdict;
 
 // It gives so many bytes a call at most, and counts them and the calls.
 #[derive(Drop)]
@@ -27,7 +27,7 @@ impl io::Read for Peer<'_> {
 }
 
 // Of these items, one behind the other, the first is given for its bytes alone.
-fn asks_for(rt: &impl Abort, alloc: Global, item: &[u8]) -> Done {
+fn asks_for(rt: &impl Abort, alloc: Global, item: &[u8]) -> Verdict {
     let mut bytes = Vec::from_slice(alloc, item)?;
     bytes.extend_from_slice(item)?;
     for at_once in [1, 3, 100] {
@@ -48,7 +48,7 @@ fn asks_for(rt: &impl Abort, alloc: Global, item: &[u8]) -> Done {
 
 // RFC 7049, Appendix A: 0, -257, "IETF", "streaming", [1, [2, 3]], [_ 1], {"a": 1} and {_ "a": 1}.
 #[test]
-fn asks_for_no_byte_behind_an_item(rt: HostRuntime) -> Done {
+fn asks_for_no_byte_behind_an_item(rt: HostRuntime) -> Verdict {
     let alloc = rt.alloc();
     for item in [
         b"\x00".as_slice(),

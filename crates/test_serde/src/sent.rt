@@ -3,7 +3,7 @@
 use crate::checks::{is_refused_at, is_written};
 use cbor_serde::to_vec;
 use serde::{Described, Serialize, Serializer};
-use test_checks::{Done, is_refused};
+use test_checks::{Verdict, is_refused};
 
 // What a type sends of itself.
 #[derive(Clone, Copy)]
@@ -71,7 +71,7 @@ const SENT: &[(&[Call], &[u8])] = &[
 ];
 
 #[test]
-fn writes_what_is_sent(rt: HostRuntime) -> Done {
+fn writes_what_is_sent(rt: HostRuntime) -> Verdict {
     for (calls, bytes) in SENT {
         is_written(&rt, rt.alloc(), &Script(*calls), bytes)?;
     }
@@ -111,7 +111,7 @@ const REFUSED: &[(&[Call], &str)] = &[
 ];
 
 #[test]
-fn wants_one_whole_item(rt: HostRuntime) -> Done {
+fn wants_one_whole_item(rt: HostRuntime) -> Verdict {
     for (row, (calls, words)) in REFUSED.iter().enumerate() {
         is_refused_at(row, to_vec(rt.alloc(), &Script(*calls)), words)?;
     }
@@ -138,7 +138,7 @@ impl Serialize for Nest {
 }
 
 #[test]
-fn refuses_a_level_too_many(rt: HostRuntime) -> Done {
+fn refuses_a_level_too_many(rt: HostRuntime) -> Verdict {
     let alloc = rt.alloc();
     let bytes = to_vec(alloc, &Nest(127))?;
     assert_eq!(rt; bytes.len(), 127);

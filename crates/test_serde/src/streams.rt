@@ -7,7 +7,7 @@ use serde::DeserializeOwned;
 use std::alloc::Global;
 use std::io;
 use std::process::Abort;
-use test_checks::{Done, is_refused};
+use test_checks::{Verdict, is_refused};
 
 // Whether the type refuses the item; its message takes memory.
 fn does_not_fit(error: &Error) -> bool {
@@ -19,7 +19,7 @@ fn ends_by<R: io::Read + Drop, T: DeserializeOwned>(
     rt: &impl Abort,
     items: &mut Stream<R, T>,
     words: &str,
-) -> Done {
+) -> Verdict {
     is_refused(items.next().ok_or("none")?, words)?;
     ends(rt, items);
     Ok(())
@@ -32,7 +32,7 @@ fn ends<R: io::Read + Drop, T: DeserializeOwned>(rt: &impl Abort, items: &mut St
 
 // RFC 7049, Appendix A: [1, 2, 3], [] and "IETF".
 #[test]
-fn gives_items_one_by_one(rt: HostRuntime) -> Done {
+fn gives_items_one_by_one(rt: HostRuntime) -> Verdict {
     let mut items = Stream::<_, Vec<u8>>::new(rt.alloc(), b"\x83\x01\x02\x03\x80".as_slice());
     assert_eq!(rt;
         items.next().ok_or("none")??.as_slice(),
@@ -45,7 +45,7 @@ fn gives_items_one_by_one(rt: HostRuntime) -> Done {
 }
 
 #[test]
-fn ends_at_a_fault(rt: HostRuntime) -> Done {
+fn ends_at_a_fault(rt: HostRuntime) -> Verdict {
     let mut cut = Stream::<_, String>::new(rt.alloc(), b"\x64IETF\x64IE".as_slice());
     assert_eq!(rt; cut.next().ok_or("none")??.as_str(), "IETF");
     ends_by(&rt, &mut cut, "EOF while parsing a value at offset 3")?;
@@ -55,7 +55,7 @@ fn ends_at_a_fault(rt: HostRuntime) -> Done {
 }
 
 #[test]
-fn ends_at_another_type(rt: HostRuntime) -> Done {
+fn ends_at_another_type(rt: HostRuntime) -> Verdict {
     let mut other = Stream::<_, u8>::new(rt.alloc(), b"\x64IETF\x01".as_slice());
     assert!(rt; matches!(other.next(), Some(Err(error)) if does_not_fit(&error)));
     ends(&rt, &mut other);
@@ -63,7 +63,7 @@ fn ends_at_another_type(rt: HostRuntime) -> Done {
 }
 
 #[test]
-fn reports_a_fault_of_the_reader(rt: HostRuntime) -> Done {
+fn reports_a_fault_of_the_reader(rt: HostRuntime) -> Verdict {
     let mut items = Stream::<_, u8>::new(rt.alloc(), Failing { given: false });
     is_its_fault(&rt, items.next().ok_or("none")?)?;
     ends(&rt, &mut items);
@@ -93,7 +93,7 @@ const ENDLESS: &[(u8, &str)] = &[
 ];
 
 #[test]
-fn takes_no_more_than_the_item(rt: HostRuntime) -> Done {
+fn takes_no_more_than_the_item(rt: HostRuntime) -> Verdict {
     for (row, (byte, words)) in ENDLESS.iter().enumerate() {
         is_refused_at(row, of_endless(rt.alloc(), *byte), words)?;
     }
@@ -101,7 +101,7 @@ fn takes_no_more_than_the_item(rt: HostRuntime) -> Done {
 }
 
 #[test]
-fn takes_no_more_than_each_item(rt: HostRuntime) -> Done {
+fn takes_no_more_than_each_item(rt: HostRuntime) -> Verdict {
     let mut ones = Stream::<_, u8>::new(rt.alloc(), Endless(1));
     assert_eq!(rt; ones.next().ok_or("none")??, 1);
     assert_eq!(rt; ones.next().ok_or("none")??, 1);
@@ -110,7 +110,7 @@ fn takes_no_more_than_each_item(rt: HostRuntime) -> Done {
 
 // What a type refuses stands before the fault in it.
 #[test]
-fn refuses_by_what_comes_first(rt: HostRuntime) -> Done {
+fn refuses_by_what_comes_first(rt: HostRuntime) -> Verdict {
     let text: &[u8] = b"\x82\x61a\x62\xc3\x28";
     assert!(rt;
         matches!(from_reader::<_, (u8, u8)>(rt.alloc(), text), Err(error) if does_not_fit(&error))

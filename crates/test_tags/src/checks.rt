@@ -5,7 +5,7 @@ use cbor_de::{Deserialize, SliceRead, from_slice};
 use cbor_ser::{Serialize, to_vec};
 use std::alloc::Global;
 use std::process::Abort;
-use test_checks::Done;
+use test_checks::Verdict;
 
 /// The value is written as these bytes, and they are read as it.
 pub fn is_encoded<'a, T: Serialize + PartialEq + Deserialize<'a, SliceRead<'a>>>(
@@ -13,7 +13,7 @@ pub fn is_encoded<'a, T: Serialize + PartialEq + Deserialize<'a, SliceRead<'a>>>
     alloc: Global,
     value: T,
     bytes: &'a [u8],
-) -> Done {
+) -> Verdict {
     assert!(rt; to_vec(alloc, &value)?.as_slice() == bytes);
     assert!(rt; from_slice::<T>(alloc, bytes)? == value);
     Ok(())

@@ -5,23 +5,23 @@ use cbor_de::from_slice;
 use cbor_tags::{BigInt, BigUint};
 use std::alloc::Global;
 use std::process::Abort;
-use test_checks::{Done, is_refused};
+use test_checks::{Verdict, is_refused};
 
 /// The number is written as these bytes, and they are read as it.
-fn is_natural(rt: &impl Abort, alloc: Global, number: u128, bytes: &[u8]) -> Done {
+fn is_natural(rt: &impl Abort, alloc: Global, number: u128, bytes: &[u8]) -> Verdict {
     is_encoded(rt, alloc, BigUint::from_u128(alloc, number)?, bytes)?;
     assert!(rt; from_slice::<BigUint>(alloc, bytes)?.to_u128() == Some(number));
     Ok(())
 }
 
-fn is_integer(rt: &impl Abort, alloc: Global, number: i128, bytes: &[u8]) -> Done {
+fn is_integer(rt: &impl Abort, alloc: Global, number: i128, bytes: &[u8]) -> Verdict {
     is_encoded(rt, alloc, BigInt::from_i128(alloc, number)?, bytes)?;
     assert!(rt; from_slice::<BigInt>(alloc, bytes)?.to_i128() == Some(number));
     Ok(())
 }
 
 #[test]
-fn writes_and_reads_big_numbers(rt: HostRuntime) -> Done {
+fn writes_and_reads_big_numbers(rt: HostRuntime) -> Verdict {
     let alloc = rt.alloc();
     is_natural(&rt, alloc, 1 << 64, b"\xc2\x49\x01\0\0\0\0\0\0\0\0")?;
     is_natural(&rt, alloc, 0, b"\xc2\x40")?;
@@ -35,7 +35,7 @@ fn writes_and_reads_big_numbers(rt: HostRuntime) -> Done {
 
 // Leading zeros are kept, and count for nothing; and the first number that is too far out.
 #[test]
-fn keeps_bytes_as_they_came(rt: HostRuntime) -> Done {
+fn keeps_bytes_as_they_came(rt: HostRuntime) -> Verdict {
     let alloc = rt.alloc();
     let mut bytes = *b"\xc2\x51\0\xff\xff\xff\xff\xff\xff\xff\xff\xff\xff\xff\xff\xff\xff\xff\xff";
     let most: BigUint = from_slice(alloc, &bytes)?;
@@ -51,7 +51,7 @@ fn keeps_bytes_as_they_came(rt: HostRuntime) -> Done {
 }
 
 #[test]
-fn refuses_what_is_no_big_number(rt: HostRuntime) -> Done {
+fn refuses_what_is_no_big_number(rt: HostRuntime) -> Verdict {
     let alloc = rt.alloc();
     for bytes in [&b"\x40"[..], b"\xc3\x40"] {
         let number = from_slice::<BigUint>(alloc, bytes);

@@ -4,10 +4,10 @@ use crate::checks::is_encoded;
 use cbor_de::from_slice;
 use cbor_tags::{DateTime, EpochTime};
 use cbor_value::Float;
-use test_checks::{Done, is_refused};
+use test_checks::{Verdict, is_refused};
 
 #[test]
-fn writes_and_reads_times(rt: HostRuntime) -> Done {
+fn writes_and_reads_times(rt: HostRuntime) -> Verdict {
     let alloc = rt.alloc();
     let text = DateTime(String::from_str(alloc, "2013-03-21T20:04:00Z")?);
     is_encoded(&rt, alloc, text, b"\xc0\x742013-03-21T20:04:00Z")?;
@@ -27,7 +27,7 @@ fn writes_and_reads_times(rt: HostRuntime) -> Done {
 }
 
 #[test]
-fn refuses_what_is_no_time(rt: HostRuntime) -> Done {
+fn refuses_what_is_no_time(rt: HostRuntime) -> Verdict {
     let alloc = rt.alloc();
     for bytes in [&b"\x60"[..], b"\xc1\x60"] {
         let text = from_slice::<DateTime>(alloc, bytes);

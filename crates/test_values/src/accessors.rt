@@ -5,7 +5,7 @@ use cbor_value::{Float, Map, Value};
 use std::alloc::Global;
 use std::process::Abort;
 use std::test::Fail;
-use test_checks::Done;
+use test_checks::Verdict;
 
 /// The value holds something of this kind, and of no other.
 fn is_of_kind(rt: &impl Abort, value: &Value, kind: usize) {
@@ -64,7 +64,7 @@ fn each_kind(alloc: Global) -> Result<Vec<Value>, Fail> {
 }
 
 #[test]
-fn tells_kinds_apart(rt: HostRuntime) -> Done {
+fn tells_kinds_apart(rt: HostRuntime) -> Verdict {
     for (kind, value) in each_kind(rt.alloc())?.iter().enumerate() {
         is_of_kind(&rt, value, kind);
     }
@@ -125,7 +125,7 @@ fn gives_no_number_for_a_nan(rt: HostRuntime) {
 }
 
 #[test]
-fn gives_what_strings_hold(rt: HostRuntime) -> Done {
+fn gives_what_strings_hold(rt: HostRuntime) -> Verdict {
     let alloc = rt.alloc();
     let value = Value::Bytes(Vec::from_slice(alloc, b"\x01\x02\x03\x04")?);
     assert!(rt; value.as_bytes() == Some(&b"\x01\x02\x03\x04"[..]));
@@ -134,7 +134,7 @@ fn gives_what_strings_hold(rt: HostRuntime) -> Done {
 }
 
 #[test]
-fn gives_what_lies_inside(rt: HostRuntime) -> Done {
+fn gives_what_lies_inside(rt: HostRuntime) -> Verdict {
     assert_eq!(rt; Value::Bool(false).as_bool(), Some(false));
     let array = array(rt.alloc())?;
     let items = array.as_array().ok_or("no array")?;
@@ -146,7 +146,7 @@ fn gives_what_lies_inside(rt: HostRuntime) -> Done {
 }
 
 #[test]
-fn gives_a_tag_and_what_is_in_it(rt: HostRuntime) -> Done {
+fn gives_a_tag_and_what_is_in_it(rt: HostRuntime) -> Verdict {
     let time = time(rt.alloc())?;
     let (tag, inner) = time.as_tag().ok_or("no tag")?;
     assert_eq!(rt; tag, 1);
@@ -163,7 +163,7 @@ fn lends_kind(rt: &impl Abort, value: &mut Value, kind: usize) {
 }
 
 #[test]
-fn lends_of_each_kind(rt: HostRuntime) -> Done {
+fn lends_of_each_kind(rt: HostRuntime) -> Verdict {
     for (kind, value) in each_kind(rt.alloc())?.iter_mut().enumerate() {
         lends_kind(&rt, value, kind);
     }
@@ -171,7 +171,7 @@ fn lends_of_each_kind(rt: HostRuntime) -> Done {
 }
 
 #[test]
-fn changes_strings_in_place(rt: HostRuntime) -> Done {
+fn changes_strings_in_place(rt: HostRuntime) -> Verdict {
     let alloc = rt.alloc();
     let mut bytes = bytes(alloc)?;
     bytes.as_bytes_mut().ok_or("no bytes")?.push(3)?;
@@ -183,7 +183,7 @@ fn changes_strings_in_place(rt: HostRuntime) -> Done {
 }
 
 #[test]
-fn changes_arrays_and_maps_in_place(rt: HostRuntime) -> Done {
+fn changes_arrays_and_maps_in_place(rt: HostRuntime) -> Verdict {
     let alloc = rt.alloc();
     let mut array = array(alloc)?;
     array.as_array_mut().ok_or("no array")?.push(Value::Null)?;
@@ -196,7 +196,7 @@ fn changes_arrays_and_maps_in_place(rt: HostRuntime) -> Done {
 }
 
 /// The value is given up as something of this kind; of another it is given back, as it was.
-fn gives_up(rt: &impl Abort, alloc: Global, kind: usize) -> Done {
+fn gives_up(rt: &impl Abort, alloc: Global, kind: usize) -> Verdict {
     for (i, value) in each_kind(alloc)?.into_iter().enumerate() {
         let before = value.clone(alloc)?;
         let given_back = match kind {
@@ -212,20 +212,20 @@ fn gives_up(rt: &impl Abort, alloc: Global, kind: usize) -> Done {
 }
 
 #[test]
-fn gives_back_what_is_no_string(rt: HostRuntime) -> Done {
+fn gives_back_what_is_no_string(rt: HostRuntime) -> Verdict {
     gives_up(&rt, rt.alloc(), 4)?;
     gives_up(&rt, rt.alloc(), 5)
 }
 
 #[test]
-fn gives_back_what_holds_no_values(rt: HostRuntime) -> Done {
+fn gives_back_what_holds_no_values(rt: HostRuntime) -> Verdict {
     gives_up(&rt, rt.alloc(), 6)?;
     gives_up(&rt, rt.alloc(), 7)?;
     gives_up(&rt, rt.alloc(), 8)
 }
 
 #[test]
-fn gives_up_its_string(rt: HostRuntime) -> Done {
+fn gives_up_its_string(rt: HostRuntime) -> Verdict {
     let alloc = rt.alloc();
     let bytes = bytes(alloc)?.into_bytes();
     assert!(rt; bytes.is_ok_and(|bytes| bytes.as_slice() == &[1, 2][..]));
@@ -235,7 +235,7 @@ fn gives_up_its_string(rt: HostRuntime) -> Done {
 }
 
 #[test]
-fn gives_up_its_values(rt: HostRuntime) -> Done {
+fn gives_up_its_values(rt: HostRuntime) -> Verdict {
     let alloc = rt.alloc();
     let items = array(alloc)?.into_array();
     assert!(rt; items.is_ok_and(|items| items.len() == 2));

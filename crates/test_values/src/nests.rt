@@ -5,7 +5,7 @@ use cbor_value::{Map, Value};
 use std::alloc::Global;
 use std::cmp::Ordering;
 use std::test::Fail;
-use test_checks::Done;
+use test_checks::Verdict;
 
 /// A value in an array, in a map, in a map's key, and under a tag, so many times.
 fn nest(alloc: Global, times: u8) -> Result<Value, Fail> {
@@ -20,7 +20,7 @@ fn nest(alloc: Global, times: u8) -> Result<Value, Fail> {
 }
 
 #[test]
-fn copies_and_compares_each_part_once(rt: HostRuntime) -> Done {
+fn copies_and_compares_each_part_once(rt: HostRuntime) -> Verdict {
     let alloc = rt.alloc();
     let value = nest(alloc, 40)?;
     let copy = value.clone(alloc)?;

@@ -5,7 +5,7 @@ use cbor_value::{Float, Map, Value};
 use std::alloc::{AllocError, Global};
 use std::cmp::Ordering;
 use std::process::Abort;
-use test_checks::Done;
+use test_checks::Verdict;
 
 // The checks below promise nothing, so that a test of many rows carries no facts from one to the
 // next.
@@ -20,13 +20,13 @@ fn is_value(rt: &impl Abort, made: Value, want: Value) {
 }
 
 /// The copy of the value is the value.
-fn is_copied(rt: &impl Abort, alloc: Global, value: &Value) -> Done {
+fn is_copied(rt: &impl Abort, alloc: Global, value: &Value) -> Verdict {
     assert_eq!(rt; value.clone(alloc)?, *value);
     Ok(())
 }
 
 /// The list, sorted from its reverse, is the list again.
-fn stands_sorted(rt: &impl Abort, alloc: Global, list: &[Value]) -> Done {
+fn stands_sorted(rt: &impl Abort, alloc: Global, list: &[Value]) -> Verdict {
     let mut sorted = Vec::new(alloc);
     for value in list.iter().rev() {
         sorted.push(value.clone(alloc)?)?;
@@ -37,7 +37,7 @@ fn stands_sorted(rt: &impl Abort, alloc: Global, list: &[Value]) -> Done {
 }
 
 #[test]
-fn sorts_integers(rt: HostRuntime) -> Done {
+fn sorts_integers(rt: HostRuntime) -> Verdict {
     let mut list = Vec::new(rt.alloc());
     for i in [
         0,
@@ -69,7 +69,7 @@ fn sorts_integers(rt: HostRuntime) -> Done {
 }
 
 #[test]
-fn sorts_texts(rt: HostRuntime) -> Done {
+fn sorts_texts(rt: HostRuntime) -> Verdict {
     let alloc = rt.alloc();
     let mut list = Vec::new(alloc);
     for word in ["", "a", "b", "aa"] {
@@ -79,7 +79,7 @@ fn sorts_texts(rt: HostRuntime) -> Done {
 }
 
 #[test]
-fn sorts_byte_strings(rt: HostRuntime) -> Done {
+fn sorts_byte_strings(rt: HostRuntime) -> Verdict {
     let alloc = rt.alloc();
     let mut list = Vec::new(alloc);
     for string in [&[][..], &[0], &[1], &[0, 0]] {
@@ -89,7 +89,7 @@ fn sorts_byte_strings(rt: HostRuntime) -> Done {
 }
 
 #[test]
-fn sorts_simple_values(rt: HostRuntime) -> Done {
+fn sorts_simple_values(rt: HostRuntime) -> Verdict {
     stands_sorted(
         &rt,
         rt.alloc(),
@@ -116,7 +116,7 @@ fn sorts_floats_by_width(rt: HostRuntime) {
 }
 
 #[test]
-fn sorts_kinds(rt: HostRuntime) -> Done {
+fn sorts_kinds(rt: HostRuntime) -> Verdict {
     let alloc = rt.alloc();
     stands_sorted(
         &rt,
@@ -132,7 +132,7 @@ fn sorts_kinds(rt: HostRuntime) -> Done {
 }
 
 #[test]
-fn sorts_keys(rt: HostRuntime) -> Done {
+fn sorts_keys(rt: HostRuntime) -> Verdict {
     let alloc = rt.alloc();
     let mut list = vec![in alloc; Value::Integer(10), Value::Integer(100), Value::Integer(-1)]?;
     list.push(text(alloc, "z")?)?;
@@ -149,7 +149,7 @@ fn array_of(alloc: Global, i: i128) -> Result<Value, AllocError> {
 }
 
 #[test]
-fn copies_values(rt: HostRuntime) -> Done {
+fn copies_values(rt: HostRuntime) -> Verdict {
     let alloc = rt.alloc();
     is_copied(&rt, alloc, &Value::Null)?;
     is_copied(&rt, alloc, &Value::Float(Float::Single(0x7fc0_0001)))?;
@@ -184,7 +184,7 @@ fn makes_values_of_unsigned_numbers(rt: HostRuntime) {
 }
 
 #[test]
-fn makes_values_of_other_types(rt: HostRuntime) -> Done {
+fn makes_values_of_other_types(rt: HostRuntime) -> Verdict {
     let alloc = rt.alloc();
     is_value(&rt, Value::from(true), Value::Bool(true));
     let one = Float::Half(0x3c00);

@@ -8,7 +8,7 @@ use std::alloc::{AllocError, Global};
 use std::io;
 use std::io::ErrorKind;
 use std::process::Abort;
-use test_checks::{Done, is_refused};
+use test_checks::{Verdict, is_refused};
 
 pub fn text(alloc: Global, text: &str) -> Result<Value, AllocError> {
     Ok(Value::Text(text.to_owned(alloc)?))
@@ -22,7 +22,7 @@ pub fn tag(alloc: Global, tag: u64, value: Value) -> Result<Value, AllocError> {
 }
 
 /// The value is encoded so.
-pub fn writes<T: Serialize>(rt: &impl Abort, alloc: Global, value: &T, want: &[u8]) -> Done {
+pub fn writes<T: Serialize>(rt: &impl Abort, alloc: Global, value: &T, want: &[u8]) -> Verdict {
     assert!(rt; to_vec(alloc, value)?.as_slice() == want);
     Ok(())
 }
@@ -30,12 +30,12 @@ pub fn writes<T: Serialize>(rt: &impl Abort, alloc: Global, value: &T, want: &[u
 const TOO_FAR_OUT: &str = "The number can't be stored in CBOR";
 
 /// The call was refused for a number that is too far out.
-pub fn is_too_far_out<T: Drop>(rt: &impl Abort, answer: error::Result<T>) -> Done {
+pub fn is_too_far_out<T: Drop>(rt: &impl Abort, answer: error::Result<T>) -> Verdict {
     is_refused(answer, TOO_FAR_OUT)
 }
 
 /// The value has a number that is too far out.
-pub fn is_not_written(rt: &impl Abort, alloc: Global, value: &Value) -> Done {
+pub fn is_not_written(rt: &impl Abort, alloc: Global, value: &Value) -> Verdict {
     let answer = to_vec(alloc, value);
     if let Err(e) = &answer {
         assert!(rt; e.is_memory() || e.is_data());
@@ -44,7 +44,7 @@ pub fn is_not_written(rt: &impl Abort, alloc: Global, value: &Value) -> Done {
 }
 
 /// The value has a number that is too far out, and this is written before it.
-pub fn is_written_up_to(rt: &impl Abort, alloc: Global, value: &Value, before: &[u8]) -> Done {
+pub fn is_written_up_to(rt: &impl Abort, alloc: Global, value: &Value, before: &[u8]) -> Verdict {
     let mut room = [0; 16];
     let mut sink = SliceWrite::new(&mut room);
     let done = to_writer(alloc, &mut sink, value);

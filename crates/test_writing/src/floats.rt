@@ -5,7 +5,7 @@ use cbor_ser::{Serialize, Serializer};
 use cbor_value::{Float, Map, Value};
 use std::alloc::Global;
 use std::process::Abort;
-use test_checks::Done;
+use test_checks::Verdict;
 
 /// With the setting the value is written so.
 fn writes_shortest<T: Serialize>(
@@ -13,7 +13,7 @@ fn writes_shortest<T: Serialize>(
     alloc: Global,
     value: &T,
     want: &'static [u8],
-) -> Done {
+) -> Verdict {
     let mut ser = Serializer::new(alloc, Vec::new(alloc)).shortest_floats();
     value.serialize(&mut ser)?;
     let bytes = ser.into_inner();
@@ -23,7 +23,7 @@ fn writes_shortest<T: Serialize>(
 
 // Rows of RFC 8949, Appendix A.
 #[test]
-fn writes_the_floats_of_appendix_a(rt: HostRuntime) -> Done {
+fn writes_the_floats_of_appendix_a(rt: HostRuntime) -> Verdict {
     let rows: [(f64, &'static [u8]); 10] = [
         (-0.0, b"\xf9\x80\0".as_slice()),
         (1.0, b"\xf9\x3c\0".as_slice()),
@@ -45,7 +45,7 @@ fn writes_the_floats_of_appendix_a(rt: HostRuntime) -> Done {
 
 // Appendix A has infinity and a NaN in all three widths.
 #[test]
-fn writes_each_width_alike(rt: HostRuntime) -> Done {
+fn writes_each_width_alike(rt: HostRuntime) -> Verdict {
     let alloc = rt.alloc();
     writes_shortest(&rt, alloc, &Float::Half(0x7c00), b"\xf9\x7c\0")?;
     writes_shortest(&rt, alloc, &Float::Single(0x7f80_0000), b"\xf9\x7c\0")?;
@@ -61,7 +61,7 @@ fn writes_each_width_alike(rt: HostRuntime) -> Done {
 
 // The parts of a tuple, a list and a variant, and what is no float.
 #[test]
-fn writes_parts_shortest(rt: HostRuntime) -> Done {
+fn writes_parts_shortest(rt: HostRuntime) -> Verdict {
     let alloc = rt.alloc();
     writes_shortest(
         &rt,
@@ -77,7 +77,7 @@ fn writes_parts_shortest(rt: HostRuntime) -> Done {
 // {"x": 1.5}, by the field's name, or by its number where the format is packed too, in either order
 // of the settings.
 #[test]
-fn writes_fields_shortest(rt: HostRuntime) -> Done {
+fn writes_fields_shortest(rt: HostRuntime) -> Verdict {
     let alloc = rt.alloc();
     let named = Serializer::new(alloc, Vec::new(alloc)).shortest_floats();
     writes_a_field(&rt, named, b"\xa1\x61x\xf9\x3e\0")?;
@@ -93,7 +93,7 @@ fn writes_fields_shortest(rt: HostRuntime) -> Done {
     writes_a_field(&rt, wide, b"\xa1\x61x\xfb\x3f\xf8\0\0\0\0\0\0")
 }
 
-fn writes_a_field(rt: &impl Abort, mut ser: Serializer<Vec<u8>>, want: &'static [u8]) -> Done {
+fn writes_a_field(rt: &impl Abort, mut ser: Serializer<Vec<u8>>, want: &'static [u8]) -> Verdict {
     let mut fields = ser.serialize_struct("Point", 1)?;
     fields.serialize_field("x", &1.5f64)?;
     fields.end()?;
@@ -106,7 +106,7 @@ const ONE_AND_A_HALF: Float = Float::Double(0x3ff8_0000_0000_0000);
 
 // {1.5: 1([null, h'07', 1.1]), "a": -1}
 #[test]
-fn writes_within_values_shortest(rt: HostRuntime) -> Done {
+fn writes_within_values_shortest(rt: HostRuntime) -> Verdict {
     let alloc = rt.alloc();
     let bytes = Value::Bytes(vec![in alloc; 7; 1]?);
     let number = Value::Float(Float::from(1.1f64));
@@ -124,7 +124,7 @@ fn writes_within_values_shortest(rt: HostRuntime) -> Done {
 
 // Two floats of one number are two keys of a value, and stay two.
 #[test]
-fn keeps_the_pairs_of_a_map(rt: HostRuntime) -> Done {
+fn keeps_the_pairs_of_a_map(rt: HostRuntime) -> Verdict {
     let alloc = rt.alloc();
     let mut map = Map::new(alloc);
     map.insert(Value::Float(ONE_AND_A_HALF), Value::Integer(2))?;

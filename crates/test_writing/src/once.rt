@@ -6,7 +6,7 @@ use cbor_ser::{
 };
 use std::alloc::Global;
 use std::cell::Cell;
-use test_checks::Done;
+use test_checks::Verdict;
 
 /// A number that counts how often it was written.
 #[derive(Drop)]
@@ -25,7 +25,7 @@ impl Serialize for Counted {
 }
 
 /// Writes the number by each call.
-fn write_by_each(alloc: Global, counted: &Counted) -> Done {
+fn write_by_each(alloc: Global, counted: &Counted) -> Verdict {
     to_vec(alloc, counted)?;
     to_vec_packed(alloc, counted)?;
     to_writer(alloc, &mut Vec::new(alloc), counted)?;
@@ -39,7 +39,7 @@ fn write_by_each(alloc: Global, counted: &Counted) -> Done {
 }
 
 #[test]
-fn writes_a_value_once(rt: HostRuntime) -> Done {
+fn writes_a_value_once(rt: HostRuntime) -> Verdict {
     let counted = Counted {
         number: 42,
         times: Cell::new(0),

@@ -5,7 +5,7 @@ use cbor_ser::{IoWrite, Serializer, SliceWrite};
 use cbor_value::Float;
 use std::alloc::Global;
 use std::process::Abort;
-use test_checks::{Done, is_refused};
+use test_checks::{Verdict, is_refused};
 
 /// What was written is this.
 fn is_written(rt: &impl Abort, ser: Serializer<Vec<u8>>, bytes: &'static [u8]) {
@@ -18,7 +18,7 @@ fn to_vector(alloc: Global) -> Serializer<Vec<u8>> {
 }
 
 #[test]
-fn writes_wide_numbers(rt: HostRuntime) -> Done {
+fn writes_wide_numbers(rt: HostRuntime) -> Verdict {
     let mut ser = to_vector(rt.alloc());
     ser.serialize_i64(i64::MIN)?;
     ser.serialize_u64(4294967296)?;
@@ -28,7 +28,7 @@ fn writes_wide_numbers(rt: HostRuntime) -> Done {
 }
 
 #[test]
-fn writes_whole_numbers(rt: HostRuntime) -> Done {
+fn writes_whole_numbers(rt: HostRuntime) -> Verdict {
     let mut ser = to_vector(rt.alloc());
     write_small_numbers(&mut ser)?;
     write_greater_numbers(&mut ser)?;
@@ -37,14 +37,14 @@ fn writes_whole_numbers(rt: HostRuntime) -> Done {
     Ok(())
 }
 
-fn write_small_numbers(ser: &mut Serializer<Vec<u8>>) -> Done {
+fn write_small_numbers(ser: &mut Serializer<Vec<u8>>) -> Verdict {
     ser.serialize_u8(24)?;
     ser.serialize_i8(-5)?;
     ser.serialize_i16(-300)?;
     Ok(())
 }
 
-fn write_greater_numbers(ser: &mut Serializer<Vec<u8>>) -> Done {
+fn write_greater_numbers(ser: &mut Serializer<Vec<u8>>) -> Verdict {
     ser.serialize_i32(-23567997)?;
     ser.serialize_u16(1000)?;
     ser.serialize_u32(1000000)?;
@@ -52,7 +52,7 @@ fn write_greater_numbers(ser: &mut Serializer<Vec<u8>>) -> Done {
 }
 
 #[test]
-fn writes_numbers_of_128_bits(rt: HostRuntime) -> Done {
+fn writes_numbers_of_128_bits(rt: HostRuntime) -> Verdict {
     let mut ser = to_vector(rt.alloc());
     ser.serialize_i128(-1 - u64::MAX as i128)?;
     refuses_numbers_of_128_bits(&rt, &mut ser)?;
@@ -61,14 +61,14 @@ fn writes_numbers_of_128_bits(rt: HostRuntime) -> Done {
     Ok(())
 }
 
-fn refuses_numbers_of_128_bits(rt: &impl Abort, ser: &mut Serializer<Vec<u8>>) -> Done {
+fn refuses_numbers_of_128_bits(rt: &impl Abort, ser: &mut Serializer<Vec<u8>>) -> Verdict {
     is_too_far_out(rt, ser.serialize_i128(1 << 64))?;
     is_too_far_out(rt, ser.serialize_u128(1 << 64))?;
     is_too_far_out(rt, ser.serialize_i128(-2 - u64::MAX as i128))
 }
 
 #[test]
-fn writes_tags_and_simple_values(rt: HostRuntime) -> Done {
+fn writes_tags_and_simple_values(rt: HostRuntime) -> Verdict {
     let mut ser = to_vector(rt.alloc());
     write_tags(&mut ser)?;
     write_simple_values(&mut ser)?;
@@ -78,7 +78,7 @@ fn writes_tags_and_simple_values(rt: HostRuntime) -> Done {
     Ok(())
 }
 
-fn write_tags(ser: &mut Serializer<Vec<u8>>) -> Done {
+fn write_tags(ser: &mut Serializer<Vec<u8>>) -> Verdict {
     ser.serialize_tag(55799)?;
     ser.serialize_bool(true)?;
     ser.self_describe()?;
@@ -86,7 +86,7 @@ fn write_tags(ser: &mut Serializer<Vec<u8>>) -> Done {
     Ok(())
 }
 
-fn write_simple_values(ser: &mut Serializer<Vec<u8>>) -> Done {
+fn write_simple_values(ser: &mut Serializer<Vec<u8>>) -> Verdict {
     ser.serialize_bool(false)?;
     ser.serialize_unit()?;
     ser.serialize_none()?;
@@ -94,14 +94,14 @@ fn write_simple_values(ser: &mut Serializer<Vec<u8>>) -> Done {
     Ok(())
 }
 
-fn write_floats(ser: &mut Serializer<Vec<u8>>) -> Done {
+fn write_floats(ser: &mut Serializer<Vec<u8>>) -> Verdict {
     ser.serialize_float(Float::Half(0x3c00))?;
     ser.serialize_float(Float::Single(0x47c35000))?;
     Ok(())
 }
 
 #[test]
-fn writes_strings(rt: HostRuntime) -> Done {
+fn writes_strings(rt: HostRuntime) -> Verdict {
     let mut ser = to_vector(rt.alloc());
     ser.serialize_char('é')?;
     ser.serialize_str("aâø↓é")?;
@@ -112,7 +112,7 @@ fn writes_strings(rt: HostRuntime) -> Done {
 }
 
 #[test]
-fn writes_long_strings(rt: HostRuntime) -> Done {
+fn writes_long_strings(rt: HostRuntime) -> Verdict {
     let alloc = rt.alloc();
     let content: Vec<u8> = vec![in alloc; 7; 65536]?;
     writes_head(&rt, alloc, &content[..24], b"\x58\x18")?;
@@ -121,7 +121,7 @@ fn writes_long_strings(rt: HostRuntime) -> Done {
 }
 
 /// This head stands before the content.
-fn writes_head(rt: &impl Abort, alloc: Global, content: &[u8], head: &[u8]) -> Done {
+fn writes_head(rt: &impl Abort, alloc: Global, content: &[u8], head: &[u8]) -> Verdict {
     let mut ser = to_vector(alloc);
     ser.serialize_bytes(content)?;
     let bytes = ser.into_inner();
@@ -131,7 +131,7 @@ fn writes_head(rt: &impl Abort, alloc: Global, content: &[u8], head: &[u8]) -> D
 }
 
 #[test]
-fn stops_where_a_slice_is_full(rt: HostRuntime) -> Done {
+fn stops_where_a_slice_is_full(rt: HostRuntime) -> Verdict {
     let mut room = [0; 3];
     let mut ser = Serializer::new(rt.alloc(), SliceWrite::new(&mut room));
     let refused = ser.serialize_str("foobar");
@@ -143,7 +143,7 @@ fn stops_where_a_slice_is_full(rt: HostRuntime) -> Done {
 }
 
 #[test]
-fn fills_a_slice(rt: HostRuntime) -> Done {
+fn fills_a_slice(rt: HostRuntime) -> Verdict {
     let mut room = [0; 7];
     let mut ser = Serializer::new(rt.alloc(), SliceWrite::new(&mut room));
     ser.serialize_str("foobar")?;
@@ -156,7 +156,7 @@ fn fills_a_slice(rt: HostRuntime) -> Done {
 
 // A text is two pieces, and its head is one.
 #[test]
-fn reports_a_writers_fault(rt: HostRuntime) -> Done {
+fn reports_a_writers_fault(rt: HostRuntime) -> Verdict {
     let alloc = rt.alloc();
     for left in 0..2usize {
         let mut ser = Serializer::new(alloc, IoWrite::new(FailingWriter::new(alloc, left)?));
@@ -169,7 +169,7 @@ fn reports_a_writers_fault(rt: HostRuntime) -> Done {
 
 // A serializer is printed by its settings, with no byte of what was written.
 #[test]
-fn prints_no_bytes(rt: HostRuntime) -> Done {
+fn prints_no_bytes(rt: HostRuntime) -> Verdict {
     let alloc = rt.alloc();
     let mut ser = Serializer::new(alloc, Vec::new(alloc)).packed_format();
     ser.serialize_u64(9)?;

@@ -8,7 +8,7 @@ use cbor_value::{Float, Map, Value};
 use std::alloc::Global;
 use std::process::Abort;
 use std::test::Fail;
-use test_checks::{Done, is_refused};
+use test_checks::{Verdict, is_refused};
 
 /// A value with each kind of item in it, whose encoding `EACH_KIND` puts together from RFC 7049,
 /// sections 2.1 to 2.4 and appendix A.
@@ -29,7 +29,7 @@ fn plain(alloc: Global) -> Result<Vec<Value>, Fail> {
     ]?)
 }
 
-fn push_others(alloc: Global, items: &mut Vec<Value>) -> Done {
+fn push_others(alloc: Global, items: &mut Vec<Value>) -> Verdict {
     items.push(Value::Bytes(vec![in alloc; 0x01, 0x23]?))?;
     items.push(text(alloc, "ab")?)?;
     items.push(one_pair(alloc)?)?;
@@ -54,13 +54,13 @@ const EACH_KIND: [u8; 40] = [
 const PIECES: usize = 18;
 
 #[test]
-fn spells_each_kind(rt: HostRuntime) -> Done {
+fn spells_each_kind(rt: HostRuntime) -> Verdict {
     let alloc = rt.alloc();
     writes(&rt, alloc, &each_kind(alloc)?, EACH_KIND.as_slice())
 }
 
 #[test]
-fn makes_values_of_byte_strings(rt: HostRuntime) -> Done {
+fn makes_values_of_byte_strings(rt: HostRuntime) -> Verdict {
     let alloc = rt.alloc();
     let made = Value::from(ByteBuf::from(Vec::from_slice(alloc, b"ab")?));
     writes(&rt, alloc, &made, b"\x42ab")?;
@@ -68,7 +68,7 @@ fn makes_values_of_byte_strings(rt: HostRuntime) -> Done {
 }
 
 #[test]
-fn appends_each_kind(rt: HostRuntime) -> Done {
+fn appends_each_kind(rt: HostRuntime) -> Verdict {
     let alloc = rt.alloc();
     let mut bytes = vec![in alloc; 0x9f]?;
     to_writer(alloc, &mut bytes, &each_kind(alloc)?)?;
@@ -79,7 +79,7 @@ fn appends_each_kind(rt: HostRuntime) -> Done {
 
 // A slice of each length: what a refusal leaves is a prefix of the whole.
 #[test]
-fn fills_slices_of_each_length(rt: HostRuntime) -> Done {
+fn fills_slices_of_each_length(rt: HostRuntime) -> Verdict {
     let alloc = rt.alloc();
     let value = each_kind(alloc)?;
     for len in 0..=EACH_KIND.len() {
@@ -119,7 +119,7 @@ fn ends_there(rt: &impl Abort, done: error::Result<()>, len: usize, count: usize
 }
 
 #[test]
-fn reports_a_writers_fault_at_each_call(rt: HostRuntime) -> Done {
+fn reports_a_writers_fault_at_each_call(rt: HostRuntime) -> Verdict {
     let alloc = rt.alloc();
     let value = each_kind(alloc)?;
     let mut writer = FailingWriter::new(alloc, 0)?;
@@ -134,7 +134,7 @@ fn reports_a_writers_fault_at_each_call(rt: HostRuntime) -> Done {
 }
 
 /// A writer that takes so many pieces, of so many bytes, ends the call so.
-fn fails_after(rt: &impl Abort, done: error::Result<()>, left: usize, count: usize) -> Done {
+fn fails_after(rt: &impl Abort, done: error::Result<()>, left: usize, count: usize) -> Verdict {
     if left == PIECES {
         done?;
         return Ok(());
@@ -144,7 +144,7 @@ fn fails_after(rt: &impl Abort, done: error::Result<()>, left: usize, count: usi
 }
 
 #[test]
-fn refuses_any_byte_where_there_is_no_room(rt: HostRuntime) -> Done {
+fn refuses_any_byte_where_there_is_no_room(rt: HostRuntime) -> Verdict {
     let mut room: [u8; 0] = [];
     let mut ser = Serializer::new(rt.alloc(), SliceWrite::new(&mut room));
     is_refused(ser.serialize_unit(), "Scratch buffer too small")?;
@@ -153,7 +153,7 @@ fn refuses_any_byte_where_there_is_no_room(rt: HostRuntime) -> Done {
 }
 
 #[test]
-fn refuses_numbers_that_are_too_far_out(rt: HostRuntime) -> Done {
+fn refuses_numbers_that_are_too_far_out(rt: HostRuntime) -> Verdict {
     for i in [1 << 64, -2 - u64::MAX as i128] {
         stops_at(&rt, rt.alloc(), i)?;
     }
@@ -161,7 +161,7 @@ fn refuses_numbers_that_are_too_far_out(rt: HostRuntime) -> Done {
 }
 
 /// The number is not written, alone, in an array and under a tag.
-fn stops_at(rt: &impl Abort, alloc: Global, i: i128) -> Done {
+fn stops_at(rt: &impl Abort, alloc: Global, i: i128) -> Verdict {
     is_written_up_to(rt, alloc, &Value::Integer(i), b"")?;
     let array = vec![in alloc; Value::Null, Value::Integer(i)]?;
     is_written_up_to(rt, alloc, &Value::Array(array), b"\x82\xf6")?;
@@ -170,7 +170,7 @@ fn stops_at(rt: &impl Abort, alloc: Global, i: i128) -> Done {
 
 // These calls take no allocator, so that no memory is asked for.
 #[test]
-fn fills_a_slice_without_memory(rt: HostRuntime) -> Done {
+fn fills_a_slice_without_memory(rt: HostRuntime) -> Verdict {
     let mut room = [0; 28];
     let mut ser = Serializer::new(rt.alloc(), SliceWrite::new(&mut room));
     write_plain(&mut ser)?;
@@ -183,7 +183,7 @@ fn fills_a_slice_without_memory(rt: HostRuntime) -> Done {
     Ok(())
 }
 
-fn write_plain(ser: &mut Serializer<SliceWrite<'_>>) -> Done {
+fn write_plain(ser: &mut Serializer<SliceWrite<'_>>) -> Verdict {
     ser.serialize_bool(false)?;
     ser.serialize_unit()?;
     ser.serialize_u64(u64::MAX)?;
@@ -191,7 +191,7 @@ fn write_plain(ser: &mut Serializer<SliceWrite<'_>>) -> Done {
     Ok(())
 }
 
-fn write_more(ser: &mut Serializer<SliceWrite<'_>>) -> Done {
+fn write_more(ser: &mut Serializer<SliceWrite<'_>>) -> Verdict {
     ser.serialize_float(Float::Half(0x3c00))?;
     ser.serialize_char('a')?;
     ser.serialize_str("ab")?;

@@ -3,10 +3,10 @@
 use crate::checks::{is_not_written, tag};
 use cbor_ser::{Serializer, SliceWrite};
 use cbor_value::Value;
-use test_checks::{Done, is_refused};
+use test_checks::{Verdict, is_refused};
 
 #[test]
-fn refuses_numbers_that_are_too_far_out(rt: HostRuntime) -> Done {
+fn refuses_numbers_that_are_too_far_out(rt: HostRuntime) -> Verdict {
     for i in [1 << 64, -2 - u64::MAX as i128, i128::MAX, i128::MIN] {
         is_not_written(&rt, rt.alloc(), &Value::Integer(i))?;
     }
@@ -14,20 +14,20 @@ fn refuses_numbers_that_are_too_far_out(rt: HostRuntime) -> Done {
 }
 
 #[test]
-fn refuses_such_a_number_at_the_end_of_an_array(rt: HostRuntime) -> Done {
+fn refuses_such_a_number_at_the_end_of_an_array(rt: HostRuntime) -> Verdict {
     let alloc = rt.alloc();
     let array = vec![in alloc; Value::Null, Value::Integer(1 << 64)]?;
     is_not_written(&rt, alloc, &Value::Array(array))
 }
 
 #[test]
-fn refuses_such_a_number_under_a_tag(rt: HostRuntime) -> Done {
+fn refuses_such_a_number_under_a_tag(rt: HostRuntime) -> Verdict {
     let alloc = rt.alloc();
     is_not_written(&rt, alloc, &tag(alloc, 1, Value::Integer(i128::MIN))?)
 }
 
 #[test]
-fn refuses_such_a_number_at_any_depth(rt: HostRuntime) -> Done {
+fn refuses_such_a_number_at_any_depth(rt: HostRuntime) -> Verdict {
     let alloc = rt.alloc();
     let array = Value::Array(vec![in alloc; Value::Integer(1 << 64), Value::Null]?);
     let tagged = tag(alloc, 2, array)?;
@@ -36,7 +36,7 @@ fn refuses_such_a_number_at_any_depth(rt: HostRuntime) -> Done {
 
 // There is no room for any byte, and the sink isn't asked.
 #[test]
-fn refuses_such_a_number_before_the_sink(rt: HostRuntime) -> Done {
+fn refuses_such_a_number_before_the_sink(rt: HostRuntime) -> Verdict {
     let words = "The number can't be stored in CBOR";
     let mut room: [u8; 0] = [];
     let mut ser = Serializer::new(rt.alloc(), SliceWrite::new(&mut room));

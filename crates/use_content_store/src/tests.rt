@@ -10,7 +10,7 @@ use std::io::ErrorKind;
 use std::process::Abort;
 use std::test::Fail;
 
-type Done = Result<(), Fail>;
+type Verdict = Result<(), Fail>;
 
 /// A log of three records: an extension of an attestation (Firefox), a sum (Dhall's tests), and a
 /// text within an array (a suite of JSON).
@@ -47,7 +47,7 @@ fn broken(answer: Result<Opened, OpenError>) -> Result<(usize, Error), Fail> {
 }
 
 /// The log, cut off there, opens with the records that end no later.
-fn opens_whole_records(rt: &impl Abort, alloc: Global, cut: usize) -> Done {
+fn opens_whole_records(rt: &impl Abort, alloc: Global, cut: usize) -> Verdict {
     let Opened { store, whole } = opened(open(alloc, io::Read::take(LOG, cut as u64)))?;
     let mut expected = 0;
     for (record, end) in RECORDS {
@@ -61,7 +61,7 @@ fn opens_whole_records(rt: &impl Abort, alloc: Global, cut: usize) -> Done {
 }
 
 #[test]
-fn opens_a_log_that_is_cut_off_anywhere(rt: HostRuntime) -> Done {
+fn opens_a_log_that_is_cut_off_anywhere(rt: HostRuntime) -> Verdict {
     for cut in 0..=LOG.len() {
         opens_whole_records(&rt, rt.alloc(), cut)?;
     }
@@ -70,7 +70,7 @@ fn opens_a_log_that_is_cut_off_anywhere(rt: HostRuntime) -> Done {
 
 // 1c begins no item (RFC 8949, section 3), and a text of ff isn't UTF-8.
 #[test]
-fn refuses_a_log_with_a_broken_record(rt: HostRuntime) -> Done {
+fn refuses_a_log_with_a_broken_record(rt: HostRuntime) -> Verdict {
     for log in [b"\xf6\x1c\xf6".as_slice(), b"\xf6\x61\xff\xf6"] {
         let (at, error) = broken(open(rt.alloc(), log))?;
         assert!(rt; at == 1);
@@ -114,7 +114,7 @@ impl io::Write for Failing<'_> {
 
 // No record is taken for cut off where the reader fails.
 #[test]
-fn reports_a_readers_fault(rt: HostRuntime) -> Done {
+fn reports_a_readers_fault(rt: HostRuntime) -> Verdict {
     for (given, whole) in [(0, 0), (13, 0), (14, 14), (25, 19), (30, 30)] {
         let (at, error) = broken(open(
             rt.alloc(),
@@ -130,7 +130,7 @@ fn reports_a_readers_fault(rt: HostRuntime) -> Done {
 
 // What isn't written isn't held.
 #[test]
-fn holds_nothing_that_was_not_written(rt: HostRuntime) -> Done {
+fn holds_nothing_that_was_not_written(rt: HostRuntime) -> Verdict {
     let alloc = rt.alloc();
     let mut store = Store::new(alloc);
     let mut log = IoWrite::new(Failing { rest: b"\x84\x03" });
@@ -145,7 +145,7 @@ fn holds_nothing_that_was_not_written(rt: HostRuntime) -> Done {
 
 // A value is written once, in its canonical encoding: {"a": 1, "b": 2} (RFC 8949, appendix A).
 #[test]
-fn appends_each_value_once(rt: HostRuntime) -> Done {
+fn appends_each_value_once(rt: HostRuntime) -> Verdict {
     let alloc = rt.alloc();
     let mut store = Store::new(alloc);
     let mut log = Vec::new(alloc);

@@ -1,5 +1,5 @@
 -- What a stream gives, from its steps.
-use Rattle.std.proofs.Common.{◌≡◌, ◌∙◌, inl, inr, ◌⊎◌, ◌+◌, ◌-◌, ℕ, Bool, true, false, List, [], ◌∷◌, ◌++◌, map, length, Option, Result, Ok, Err, IfSome, refl, sym, ap, ap₂, subst, arith}
+use Rattle.std.proofs.Common.{◌≡◌, ◌≢◌, ◌∙◌, inl, inr, ◌⊎◌, ◌+◌, ◌-◌, ℕ, Bool, true, false, List, [], ◌∷◌, ◌++◌, map, length, Option, Result, Ok, Err, IfSome, refl, sym, ap, ap₂, subst, arith}
 use Rattle.std.specs.Prelude.{flat_map}
 use Rattle.std.specs.Iterator.{Yields}
 use Rattle.std.specs.List.{AllByRecursion}
@@ -26,7 +26,7 @@ use Rattle.cbor_decode_as.proofs.facts.Refusals.{excused_or}
 use Rattle.cbor_de.proofs.facts.Readings.{where_map}
 use Rattle.cbor_de.specs.Items.{AreMostItems}
 use Rattle.cbor_de.specs.Streams.{Stream, StreamGives, GivesNone, GivesItem, GivesError, begun}
-use Rattle.cbor_de.specs.StreamAnswers.{AreReadAs, IsExcused, Rejected, Faulty, limits_at, AnswersTo, StreamAnswers}
+use Rattle.cbor_de.specs.StreamAnswers.{AreReadAs, IsExcused, IsFault, Rejected, Faulty, limits_at, AnswersTo, StreamAnswers}
 use Rattle.cbor_de.proofs.taken.ItemFronts.{behind_bytes}
 use Rattle.cbor_de.proofs.taken.Items.{most_behind, first_begins, no_items, none_behind}
 
@@ -167,15 +167,15 @@ module _ {A : Type 0} (reads : Formats → Raw → A → Type 0) (total : Bool) 
       }
 
   -- and where nothing is to come
-  excused_at_end : (s t : Stream) (e : Error) → Over levels end room s [] → GivesError refusals reads total e s t → IsExcused Device e
-  excused_at_end s t e o h = elim (h.refused.reported [] o.reports) [
-    | inl x ↦ x
+  fault_at_end : (s t : Stream) (e : Error) → Over levels end room s [] → GivesError refusals reads total e s t → IsFault Device e
+  fault_at_end s t e o h = elim (h.refused.reported [] o.reports) [
+    | inl x ↦ (x, h.at_end o.reports)
     | inr n ↦ absurd (n.0 refl)
   ]
 
   last : (s t : Stream) (bs rest : List ℕ) (items : List Raw) (e : Error) → Over levels end room s bs → AreMostItems levels bs items rest → AllByRecursion (FitsScratch room) items → GivesError refusals reads total e s t → Answers items rest (Err e ∷ [])
   last s t bs rest (r ∷ rs) e o are fits h = unread s t bs r (flat_map spell rs ++ rest) e o fits.0 (first_begins levels bs r rs rest are) h
-  last s t bs [] [] e o are fits h = excused_at_end s t e (subst (Over levels end room s) are.begin.spelled o) h
+  last s t bs [] [] e o are fits h = fault_at_end s t e (subst (Over levels end room s) are.begin.spelled o) h
   last s t bs (b ∷ rest) [] e o are fits h =
       reports_first s (b ∷ rest) e (subst (Over levels end room s) are.begin.spelled o) (reports_fault s t (b ∷ rest) e (subst (Over levels end room s) are.begin.spelled o) h)
 
@@ -216,6 +216,12 @@ module _ {A : Type 0} (reads : Formats → Raw → A → Type 0) (total : Bool) 
       let a = after s all.0 bs x o all.1 in
       let b = most_behind levels bs r a.item rs rest a.rest are a.begins in
       (subst (λ (i : Raw). reads all_formats i x) (sym b.0) a.means, run_to_error xs all.0 t u e a.rest rest rs a.over b.1 fits.1 all.2 error)
+
+  -- a further item is one of the items
+  run_to_item : (xs : List A) (s t u : Stream) (x : A) (bs rest : List ℕ) (items : List Raw) → Over levels end room s bs → AreMostItems levels bs items rest → Yields Gives s (map Ok xs) t → GivesItem refusals reads x t u → items ≢ []
+  run_to_item [] s t u x bs rest [] o are all item none = no_item_before s u bs rest x o are (subst (λ (y : Stream). GivesItem refusals reads x y u) (sym all) item)
+  run_to_item (y ∷ xs) s t u x bs rest [] o are all item none = no_item_before s all.0 bs rest y o are all.1
+  run_to_item xs s t u x bs rest (r ∷ rs) o are all item none = absurd cc
 
 pub stream_answers : {A : Type 0} (reads : Formats → Raw → A → Type 0) (total : Bool) → StreamAnswers reads total
 stream_answers reads total refusals s bytes rest items answers going formats reports fits are room drains =
@@ -281,3 +287,10 @@ module _ {A : Type 0} (reads : Formats → Raw → A → Type 0) (total : Bool) 
   error_given source s t u yielded xs e b is all error bs rest items reports fits are room =
       let all' = subst (λ (ys : List (Result A Error)). Yields (StreamGives refusals reads total) s ys t) is all in
       run_to_error reads total refusals max_depth (source.offset + length bs) source.room xs s t u e bs rest items (begun_over source s bs b reports fits) are room all' error
+
+  -- where another was given, there are items
+  pub item_given : (source : Input) (s t u : Stream) (yielded : List (Result A Error)) (xs : List A) (x : A) → Begun source s → yielded ≡ map Ok xs → Yields (StreamGives refusals reads total) s yielded t → GivesItem refusals reads x t u
+      → (bs rest : List ℕ) (items : List Raw) → Reports source bs → AreBytes bs → AreMostItems max_depth bs items rest → items ≢ []
+  item_given source s t u yielded xs x b is all item bs rest items reports fits are =
+      let all' = subst (λ (ys : List (Result A Error)). Yields (StreamGives refusals reads total) s ys t) is all in
+      run_to_item reads total refusals max_depth (source.offset + length bs) source.room xs s t u x bs rest items (begun_over source s bs b reports fits) are all' item

@@ -33,7 +33,7 @@ use Rattle.cbor_de.specs.HeadsTaken.{BeginsBy, FitsHead, FitTags, parts_head, ta
 use Rattle.cbor_de.specs.ItemTaken.{BeginsAs}
 use Rattle.cbor_de.specs.PartTaken.{BeginsKey}
 use Rattle.cbor_de.specs.TagTaken.{BeginsTag}
-use Rattle.cbor_de.specs.VariantTaken.{BeginsEnum, BeginsInTags, Identifies, Opens, TupleTaken, VariantTaken}
+use Rattle.cbor_de.specs.VariantTaken.{BeginsEnum, BeginsInTags, Identifies, OpensForm, TupleTaken, VariantTaken}
 use Rattle.cbor_de.proofs.taken.HeadsTaken.{arrays, heads_spelled, heads_taken}
 use Rattle.cbor_de.proofs.taken.ItemFronts.{behind_bytes}
 use Rattle.cbor_de.proofs.taken.PartTaken.{comes, comes_again}
@@ -261,7 +261,7 @@ module _ (f : Formats) (names : List (List ℕ)) (l : Limits) (inner left index 
   -- an enum that has no tag, up to its identifier
   record Opened (form : Form) (start rest : List ℕ) : Type 0 where
     name : List ℕ
-    opens : Opens f form inner left start name
+    opens : OpensForm f form inner left start name
     identifier : BeginsAs f left (Identifies names form) name index rest
 
   -- ---- in an array
@@ -354,7 +354,7 @@ module _ (f : Formats) (names : List (List ℕ)) (l : Limits) (inner left index 
       ((shape_array (32 * 4 + info w n) (omega arith) (omega (arith, small)), omega (arith, small)), λ tag. let from = tag.0 in omega (arith, small, from))
   array_shape w ToBreak items fits = ((refl, lit< tt), λ tag. let from = tag.0 in omega (arith, from))
 
-  array_again : (remaining : Remaining) (start name rest : List ℕ) → Opens f (form.Array remaining) inner left start name → IsRead (IsName names) (item_at (raws f l) left name) index rest
+  array_again : (remaining : Remaining) (start name rest : List ℕ) → OpensForm f (form.Array remaining) inner left start name → IsRead (IsName names) (item_at (raws f l) left name) index rest
       → Again (form.Array remaining) start rest
   array_again remaining start name rest opens read =
       let o = opens.1 in
@@ -391,7 +391,7 @@ module _ (f : Formats) (names : List (List ℕ)) (l : Limits) (inner left index 
         no_tag = λ tag. let from = tag.0 in omega (arith, from);
       }
 
-  alone_again : (name rest : List ℕ) → (opens : Opens f form.Alone inner left name name) → (b : BeginsAs f left (Identifies names form.Alone) name index rest) → IsRead (Identifies names form.Alone) (item_at (raws f l) left name) index rest
+  alone_again : (name rest : List ℕ) → (opens : OpensForm f form.Alone inner left name name) → (b : BeginsAs f left (Identifies names form.Alone) name index rest) → IsRead (Identifies names form.Alone) (item_at (raws f l) left name) index rest
       → Again form.Alone name rest
   alone_again name rest opens b read =
       let low = subst Low (sym b.begins.spelled) (identifier_low names b.item (Some index) rest b.begins.acceptable.fits b.means) in
@@ -406,7 +406,7 @@ module _ (f : Formats) (names : List (List ℕ)) (l : Limits) (inner left index 
         no_tag = low_no_tag name low;
       }
 
-  form_again : l.total < 2 ^ 64 → (form : Form) (start name rest : List ℕ) → length start ≤ l.total → Opens f form inner left start name → (b : BeginsAs f left (Identifies names form) name index rest) → FitsScratch l.room b.item
+  form_again : l.total < 2 ^ 64 → (form : Form) (start name rest : List ℕ) → length start ≤ l.total → OpensForm f form inner left start name → (b : BeginsAs f left (Identifies names form) name index rest) → FitsScratch l.room b.item
       → Again form start rest
   form_again short (form.Array remaining) start name rest within opens b room =
       let spelled = ap length opens.1.spelled in

@@ -10,11 +10,11 @@ pub use Rattle.cbor_decode.proofs.Steps.{stopped_then, stopped_map}
 -- and what is reported of it
 pub use Rattle.cbor_decode.proofs.Steps.{why_then, why_map}
 -- a fault before the bytes to come
-pub use Rattle.cbor_decode.proofs.Calls.{fault_stops}
+pub use Rattle.cbor_decode.proofs.SourceCalls.{fault_stops}
 -- what is kept, where it reports a fault
-pub use Rattle.cbor_decode.proofs.Calls.{kept_reports}
+pub use Rattle.cbor_decode.proofs.SourceCalls.{kept_reports}
 -- a refusal of a source
-pub use Rattle.cbor_decode.proofs.Calls.{source_stops}
+pub use Rattle.cbor_decode.proofs.SourceCalls.{source_stops}
 pub use Rattle.cbor_decode.proofs.Steps.{byte_refused, refused_stops, taken_step, none_step}
 -- a byte that was seen, and then taken
 pub use Rattle.cbor_decode.proofs.Peeked.{peeked_step}

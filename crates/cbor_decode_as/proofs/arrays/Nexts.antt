@@ -1,5 +1,5 @@
 -- The next item of an array.
-use Rattle.std.proofs.Common.{◌≡◌, ℕ, ◌≤◌, Bool, true, List, Option, Some, None, Ok, sym, ap, subst, ◌∙◌, arith}
+use Rattle.std.proofs.Common.{◌≡◌, ℕ, ◌≤◌, Bool, true, List, Option, Some, None, Ok, sym, ap, ap₂, subst, ◌∙◌, arith}
 use Rattle.cbor_model.specs.Formats as model
 use Rattle.cbor_model.specs.Raw.{Raw}
 use Rattle.cbor_model.specs.Refusal.{end_in_array}
@@ -7,16 +7,17 @@ use Rattle.cbor_model.specs.Reader.{next_at, item_at}
 use Rattle.cbor_model.specs.Reader as reader
 use Rattle.cbor_model.proofs.facts.Reader.{ok_is, taken}
 use Rattle.cbor_read.specs.Source.{Input}
+use Rattle.cbor_io.specs.declared.error.Error.{Error}
 use Rattle.cbor_io.specs.declared.error.ErrorCode.{ErrorCode}
 use Rattle.cbor_io.specs.declared.read_error.ReadErrorCode.{ReadErrorCode}
 use Rattle.cbor_decode.specs.Cursor.{behind_next}
-use Rattle.cbor_decode.specs.Gives.{Limits, Step}
+use Rattle.cbor_decode.specs.Gives.{Limits, Step, limits}
 use Rattle.cbor_decode.specs.Heads.{remaining_of}
 use Rattle.cbor_decode.specs.declared.cursor.Remaining.{Remaining}
 use Rattle.cbor_decode.proofs.facts.Steps.{some_then, step_map, step_then}
 use Rattle.cbor_decode.specs.declared.formats.Formats.{Formats}
-use Rattle.cbor_decode_as.specs.Accesses.{IsNext, IsNextItem, IsEnd}
-use Rattle.cbor_decode_as.specs.Takes.{formats_of, raws, IsRead, IsNotRead, Refuses}
+use Rattle.cbor_decode_as.specs.Accesses.{IsNext, IsNextItem, IsEnd, MemoryForNext}
+use Rattle.cbor_decode_as.specs.Takes.{formats_of, raws, IsRead, IsNotRead, MemoryFor, Refuses}
 use Rattle.cbor_decode_as.proofs.refused.Refusing.{refuses_map, refuses_by, refuses_then}
 use Rattle.cbor_decode_as.proofs.arrays.Sequences.{NoNext}
 
@@ -50,6 +51,19 @@ module _ (s m : Input) (old new : Remaining) (more : Bool) where
         let here : Refuses allowed m w k at (λ l bs. IsNotRead (reads f) (item_at (raws (formats_of f) l) levels bs)) = subst (λ (n : ℕ). Refuses allowed m w k at (λ l bs. IsNotRead (reads f) (item_at (raws (formats_of f) l) n bs))) same h' in
         refuses_then allowed s k at m Comes (λ l bs. IsNotRead (reads f) (item_at (raws (formats_of f) l) levels bs)) (NoNext (reads f) (formats_of f) levels (remaining_of old))
         (λ l bs mid is none. not_next l bs mid is none) step here
+
+    -- where memory runs out in it, it is one for which memory may be asked
+    pub item_asks : (asks : Raw → Type 0) (e : Error) → Step s m Comes → MemoryFor asks (formats_of g) (reads g) inside m e → MemoryForNext asks (formats_of f) (reads f) levels old s e
+    item_asks asks e step memory out bs reports x after rest next =
+        let first = step.reported bs reports in
+        let both = ok_is (Some after, next.start) (Some (remaining_of new), first.rest) (sym next.next ∙ first.holds) in
+        let item = next.item.item in
+        let at = subst (λ (mid : List ℕ). item_at (raws (formats_of f) (limits s bs)) levels mid ≡ Ok (item, rest)) (ap (λ (p : Option reader.Remaining × List ℕ). p.1) both) next.item.is in
+        let kept : limits m first.rest ≡ limits s bs = ap₂ (λ (n : ℕ) (r : Option ℕ). record { total = n; room = r }) first.total step.took.room in
+        let within = subst (λ (l : Limits). item_at (raws (formats_of f) l) levels first.rest ≡ Ok (item, rest)) (sym kept) at in
+        let level = subst (λ (n : ℕ). item_at (raws (formats_of f) (limits m first.rest)) n first.rest ≡ Ok (item, rest)) (sym same) within in
+        let is = subst (λ (h : Formats). item_at (raws (formats_of h) (limits m first.rest)) inside first.rest ≡ Ok (item, rest)) (sym formats) level in
+        memory out first.rest first.reports x rest (record { item = item; is = is; means = subst (λ (h : Formats). reads h item x) (sym formats) next.item.means })
 
     module _ (t : Input) (x : A) where
       pub item_next : Step s m Comes → Step m t (λ l bs rest. IsRead (reads g) (item_at (raws (formats_of g) l) inside bs) x rest) → Step s t (IsNext (reads f) (formats_of f) levels (remaining_of old) (remaining_of new) (Some x))

@@ -119,12 +119,12 @@ module _ (P : List Raw → Type 0) (f : Formats) (levels : ℕ) (all : Remaining
       record { front = h.front ++ i.item ∷ []; holds = on h.front i.item h.holds i.means; same = sym one ∙ h.same }
 
   -- all items were read
-  pub record Done (l : Limits) (bs rest : List ℕ) : Type 0 where
+  pub record ItemsRead (l : Limits) (bs rest : List ℕ) : Type 0 where
     pub front : List Raw
     pub holds : P front
     pub is : items_at f l levels all bs ≡ Ok (append front no_raws, rest)
 
-  pub is_done : (r : Remaining) (l : Limits) (bs mid rest : List ℕ) → SoFar P f levels all r l bs mid → IsEnd r l mid rest → Done l bs rest
+  pub is_done : (r : Remaining) (l : Limits) (bs mid rest : List ℕ) → SoFar P f levels all r l bs mid → IsEnd r l mid rest → ItemsRead l bs rest
   unfolding parts_by
   is_done r l bs mid rest h e =
       let one : with_front h.front (items_at f l levels r mid) ≡ Ok (append h.front no_raws, rest) = rw e refl in

@@ -13,5 +13,5 @@ pub use Rattle.cbor_decode_as.proofs.arrays.Sequences.{each_all, each_length, ea
 pub use Rattle.cbor_decode_as.proofs.arrays.Sequences.{is_done, may_follow, must_follow, none_of_none}
 pub use Rattle.cbor_decode_as.proofs.arrays.Sequences.{rest_read}
 -- the next item
-pub use Rattle.cbor_decode_as.proofs.arrays.Nexts.{NoPart, comes, item_next, item_refused}
+pub use Rattle.cbor_decode_as.proofs.arrays.Nexts.{NoPart, comes, item_asks, item_next, item_refused}
 pub use Rattle.cbor_decode_as.proofs.arrays.Nexts.{part_missing, part_refused}

@@ -11,5 +11,5 @@ pub use Rattle.cbor_decode_as.proofs.maps.PairsRead.{pairs_begin, pairs_end, pai
 -- a next key that may not begin as it does stops the map
 pub use Rattle.cbor_decode_as.proofs.maps.BadKeys.{map_stops}
 -- the next key
-pub use Rattle.cbor_decode_as.proofs.maps.NextKeys.{key_next, key_refused, none_is_key}
+pub use Rattle.cbor_decode_as.proofs.maps.NextKeys.{key_asks, key_next, key_refused, none_is_key}
 pub use Rattle.cbor_decode_as.proofs.maps.NextKeys.{there}

@@ -1,7 +1,7 @@
 -- Published: what is made of strings that were lent.
 
 -- an item is a string of the same bytes each time
-pub use Rattle.cbor_decode_as.proofs.texts.Contents.{same_bytes}
+pub use Rattle.cbor_decode_as.proofs.texts.StringContents.{same_bytes}
 pub use Rattle.cbor_decode_as.proofs.texts.ByteStrings.{one_byte_string}
 -- what is read as another value, or not
 pub use Rattle.cbor_decode_as.proofs.texts.Lending.{made_read, made_none, made_refuses, none_of}

@@ -19,16 +19,16 @@ use Rattle.cbor_decode_as.specs.TaggedHeads.{opened_by, opened_from, opened_at, 
 -- ---- lists of bytes
 
 -- what reads the head one level further in
-abbrev pub inner : ℕ → Option (List ℕ → Reads (ℕ × Head))
-inner zero = None
-inner (suc left) = Some (opened_at left)
+abbrev pub opened_below : ℕ → Option (List ℕ → Reads (ℕ × Head))
+opened_below zero = None
+opened_below (suc left) = Some (opened_at left)
 
-pub opened_is : (levels : ℕ) (bs : List ℕ) → opened_at levels bs ≡ opened_from levels (inner levels) bs
+pub opened_is : (levels : ℕ) (bs : List ℕ) → opened_at levels bs ≡ opened_from levels (opened_below levels) bs
 unfolding opened_at
 opened_is zero bs = refl
 opened_is (suc left) bs = refl
 
-other_by : (levels : ℕ) (h : Head) (bs : List ℕ) → (head_kind h ≡ kind.tag → ⊥) → opened_by levels (inner levels) h bs ≡ Ok ((levels, h), bs)
+other_by : (levels : ℕ) (h : Head) (bs : List ℕ) → (head_kind h ≡ kind.tag → ⊥) → opened_by levels (opened_below levels) h bs ≡ Ok ((levels, h), bs)
 other_by levels (head.Unsigned n) bs other = refl
 other_by levels (head.Negative n) bs other = refl
 other_by levels (head.Bytes n) bs other = refl
@@ -42,7 +42,7 @@ other_by levels head.Undefined bs other = refl
 other_by levels (head.Float f) bs other = refl
 other_by levels head.Break bs other = refl
 
-tag_by : (levels n : ℕ) (bs : List ℕ) → opened_by levels (inner levels) (head.Tag n) bs ≡ opened_inside levels bs
+tag_by : (levels n : ℕ) (bs : List ℕ) → opened_by levels (opened_below levels) (head.Tag n) bs ≡ opened_inside levels bs
 tag_by zero n bs = refl
 tag_by (suc left) n bs = refl
 

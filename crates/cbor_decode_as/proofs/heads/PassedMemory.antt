@@ -17,7 +17,7 @@ use Rattle.cbor_decode.proofs.facts.Memory.{asks_on}
 use Rattle.cbor_decode_as.specs.TaggedHeads.{AsksBehind, opened_at, opened_by}
 use Rattle.cbor_decode_as.specs.Takes.{OfItem, raws}
 use Rattle.cbor_decode_as.specs.declared.head.HeadAt.{HeadAt}
-use Rattle.cbor_decode_as.proofs.heads.Openings.{inner, opened_is}
+use Rattle.cbor_decode_as.proofs.heads.Openings.{opened_below, opened_is}
 
 -- ---- after the head of an item within its tags
 
@@ -36,13 +36,13 @@ module _ (l : Limits) where
     here : (levels : ℕ) (w : HeadWidth) (h' : Head) (mid' : List ℕ) → ◌≡◌ {A = (ℕ × Head) × List ℕ} ((levels, h'), mid') ((left, h), mid) → behind_head m (inside m levels) w h' mid' ≡ Ok (r, rest) → Behind left h mid r rest
     here levels w h' mid' same is = subst (λ (o : (ℕ × Head) × List ℕ). Behind o.0.0 o.0.1 o.1 r rest) same (record { width = w; item = r; is = is; chunks = λ c. c })
 
-    by_head : (levels : ℕ) (w : HeadWidth) (h' : Head) (mid' : List ℕ) → ((n : ℕ) → opened_by levels (inner levels) (head.Tag n) mid' ≡ Ok ((left, h), mid) → tag_at m (inside m levels) w n mid' ≡ Ok (r, rest) → Behind left h mid r rest)
-        → opened_by levels (inner levels) h' mid' ≡ Ok ((left, h), mid) → behind_head m (inside m levels) w h' mid' ≡ Ok (r, rest) → Behind left h mid r rest
+    by_head : (levels : ℕ) (w : HeadWidth) (h' : Head) (mid' : List ℕ) → ((n : ℕ) → opened_by levels (opened_below levels) (head.Tag n) mid' ≡ Ok ((left, h), mid) → tag_at m (inside m levels) w n mid' ≡ Ok (r, rest) → Behind left h mid r rest)
+        → opened_by levels (opened_below levels) h' mid' ≡ Ok ((left, h), mid) → behind_head m (inside m levels) w h' mid' ≡ Ok (r, rest) → Behind left h mid r rest
     by_head levels w (head.Tag n) mid' tag opened is = tag n opened is
     by_head levels w h' mid' tag opened is = here levels w h' mid' (ok_is _ _ opened) is
 
-    by_opening : (levels : ℕ) (o : Reads (HeadWidth × Head)) → ((w : HeadWidth) (n : ℕ) (mid' : List ℕ) → opened_by levels (inner levels) (head.Tag n) mid' ≡ Ok ((left, h), mid) → tag_at m (inside m levels) w n mid' ≡ Ok (r, rest) → Behind left h mid r rest)
-        → (o >>= (λ h. opened_by levels (inner levels) h.0.1 h.1)) ≡ Ok ((left, h), mid) → (o >>= (λ h. behind_head m (inside m levels) h.0.0 h.0.1 h.1)) ≡ Ok (r, rest) → Behind left h mid r rest
+    by_opening : (levels : ℕ) (o : Reads (HeadWidth × Head)) → ((w : HeadWidth) (n : ℕ) (mid' : List ℕ) → opened_by levels (opened_below levels) (head.Tag n) mid' ≡ Ok ((left, h), mid) → tag_at m (inside m levels) w n mid' ≡ Ok (r, rest) → Behind left h mid r rest)
+        → (o >>= (λ h. opened_by levels (opened_below levels) h.0.1 h.1)) ≡ Ok ((left, h), mid) → (o >>= (λ h. behind_head m (inside m levels) h.0.0 h.0.1 h.1)) ≡ Ok (r, rest) → Behind left h mid r rest
     by_opening levels (Ok o) tag opened is = by_head levels o.0.0 o.0.1 o.1 (λ n. tag o.0.0 n o.1) opened is
     by_opening levels (Err f) tag opened is = absurd cc
 
@@ -53,7 +53,7 @@ module _ (l : Limits) where
         subst (λ (p : Raw × List ℕ). Behind left h mid p.0 p.1) (ok_is (raw.tag w n x.0, x.1) (r, rest) is) (record { width = b.width; item = b.item; is = b.is; chunks = b.chunks })
     within_tag w n (Err f) found is = absurd cc
 
-    begun : (levels : ℕ) (bs : List ℕ) → ((w : HeadWidth) (n : ℕ) (mid' : List ℕ) → opened_by levels (inner levels) (head.Tag n) mid' ≡ Ok ((left, h), mid) → tag_at m (inside m levels) w n mid' ≡ Ok (r, rest) → Behind left h mid r rest)
+    begun : (levels : ℕ) (bs : List ℕ) → ((w : HeadWidth) (n : ℕ) (mid' : List ℕ) → opened_by levels (opened_below levels) (head.Tag n) mid' ≡ Ok ((left, h), mid) → tag_at m (inside m levels) w n mid' ≡ Ok (r, rest) → Behind left h mid r rest)
         → opened_at levels bs ≡ Ok ((left, h), mid) → item_at m levels bs ≡ Ok (r, rest) → Behind left h mid r rest
     begun levels bs tag opened is = by_opening levels (opening_at bs) tag (sym (opened_is levels bs) ∙ opened) (sym (item_opened m levels bs) ∙ is)
 

@@ -23,7 +23,7 @@ use Rattle.cbor_decode.proofs.facts.Steps.{passed_on, passed_was, passed_stops, 
 use Rattle.cbor_decode_as.specs.TaggedHeads.{opened_by, opened_at, behind_any, RefusesBehind, StandsBehind}
 use Rattle.cbor_decode_as.specs.Takes.{ExcusedBy, FaultOrMessage, IsMessage, ReportsItem, ReportsOf, WhereTotal, IsMessageBy, RefusesWhole, HasItem, ReportsFault, any_item}
 use Rattle.cbor_decode_as.specs.declared.head.HeadAt.{HeadAt}
-use Rattle.cbor_decode_as.proofs.heads.Openings.{inner, opened_is}
+use Rattle.cbor_decode_as.proofs.heads.Openings.{opened_below, opened_is}
 use Rattle.cbor_decode_as.proofs.numbers.Scalars.{excused_or, reported_why}
 
 -- ---- after the head of an item within its tags
@@ -40,17 +40,17 @@ module _ (l : Limits) where
   abbrev Alike : ℕ → Type 0
   Alike levels = (bs : List ℕ) → passed (any_item levels l bs) ≡ (opened_at levels bs >>= behind_found)
 
-  by_head : (levels : ℕ) (w : HeadWidth) (h : Head) (mid : List ℕ) → ((n : ℕ) → passed (tag_at (values all_formats l) (inside (values all_formats l) levels) w n mid) ≡ (opened_by levels (inner levels) (head.Tag n) mid >>= behind_found))
-      → passed (behind_head (values all_formats l) (inside (values all_formats l) levels) w h mid) ≡ (opened_by levels (inner levels) h mid >>= behind_found)
+  by_head : (levels : ℕ) (w : HeadWidth) (h : Head) (mid : List ℕ) → ((n : ℕ) → passed (tag_at (values all_formats l) (inside (values all_formats l) levels) w n mid) ≡ (opened_by levels (opened_below levels) (head.Tag n) mid >>= behind_found))
+      → passed (behind_head (values all_formats l) (inside (values all_formats l) levels) w h mid) ≡ (opened_by levels (opened_below levels) h mid >>= behind_found)
   by_head levels w (head.Tag n) mid tag = tag n
   by_head levels w h mid tag = ap (λ (r : Reads Val). passed r) (value_behind all_formats l (inside (values all_formats l) levels) w h mid)
 
-  by_opening : (levels : ℕ) (r : Reads (HeadWidth × Head)) → ((w : HeadWidth) (n : ℕ) (mid : List ℕ) → passed (tag_at (values all_formats l) (inside (values all_formats l) levels) w n mid) ≡ (opened_by levels (inner levels) (head.Tag n) mid >>= behind_found))
-      → passed (r >>= (λ h. behind_head (values all_formats l) (inside (values all_formats l) levels) h.0.0 h.0.1 h.1)) ≡ ((r >>= (λ h. opened_by levels (inner levels) h.0.1 h.1)) >>= behind_found)
+  by_opening : (levels : ℕ) (r : Reads (HeadWidth × Head)) → ((w : HeadWidth) (n : ℕ) (mid : List ℕ) → passed (tag_at (values all_formats l) (inside (values all_formats l) levels) w n mid) ≡ (opened_by levels (opened_below levels) (head.Tag n) mid >>= behind_found))
+      → passed (r >>= (λ h. behind_head (values all_formats l) (inside (values all_formats l) levels) h.0.0 h.0.1 h.1)) ≡ ((r >>= (λ h. opened_by levels (opened_below levels) h.0.1 h.1)) >>= behind_found)
   by_opening levels (Ok h) tag = by_head levels h.0.0 h.0.1 h.1 (λ n. tag h.0.0 n h.1)
   by_opening levels (Err f) tag = refl
 
-  begun : (levels : ℕ) → ((w : HeadWidth) (n : ℕ) (mid : List ℕ) → passed (tag_at (values all_formats l) (inside (values all_formats l) levels) w n mid) ≡ (opened_by levels (inner levels) (head.Tag n) mid >>= behind_found)) → Alike levels
+  begun : (levels : ℕ) → ((w : HeadWidth) (n : ℕ) (mid : List ℕ) → passed (tag_at (values all_formats l) (inside (values all_formats l) levels) w n mid) ≡ (opened_by levels (opened_below levels) (head.Tag n) mid >>= behind_found)) → Alike levels
   begun levels tag bs =
       ap (λ (r : Reads Val). passed r) (item_opened (values all_formats l) levels bs)
       ∙ by_opening levels (opening_at bs) tag

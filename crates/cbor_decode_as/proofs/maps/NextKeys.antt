@@ -1,5 +1,5 @@
 -- The next key of a map.
-use Rattle.std.proofs.Common.{◌≡◌, ℕ, ◌≤◌, Bool, true, false, List, Option, Some, None, Ok, Err, sym, ap, subst, ◌∙◌, arith}
+use Rattle.std.proofs.Common.{◌≡◌, ℕ, ◌≤◌, Bool, true, false, List, Option, Some, None, Ok, Err, sym, ap, ap₂, subst, ◌∙◌, arith}
 use Rattle.cbor_model.specs.Formats as model
 use Rattle.cbor_model.specs.Formats.{may_begin_key}
 use Rattle.cbor_model.specs.Raw.{Raw}
@@ -14,14 +14,14 @@ use Rattle.cbor_io.specs.declared.error.ErrorCode.{ErrorCode}
 use Rattle.cbor_io.specs.declared.read_error.ReadError.{ReadError}
 use Rattle.cbor_io.specs.declared.read_error.ReadErrorCode.{ReadErrorCode}
 use Rattle.cbor_decode.specs.Cursor.{behind_next}
-use Rattle.cbor_decode.specs.Gives.{Limits, Step, Stopped, IsErrorOf}
+use Rattle.cbor_decode.specs.Gives.{Limits, Step, Stopped, IsErrorOf, limits}
 use Rattle.cbor_decode.specs.Heads.{remaining_of}
 use Rattle.cbor_decode.specs.declared.cursor.Remaining.{Remaining}
 use Rattle.cbor_decode.specs.declared.refusal.Refused.{Refused}
 use Rattle.cbor_decode.proofs.facts.Steps.{some_then, step_map, step_then}
 use Rattle.cbor_decode.specs.declared.formats.Formats.{Formats}
-use Rattle.cbor_decode_as.specs.MapAccesses.{Comes, key_front, IsKey}
-use Rattle.cbor_decode_as.specs.Takes.{formats_of, raws, IsRead, IsNotRead, Refuses}
+use Rattle.cbor_decode_as.specs.MapAccesses.{Comes, key_front, IsKey, MemoryForKey}
+use Rattle.cbor_decode_as.specs.Takes.{formats_of, raws, IsRead, IsNotRead, MemoryFor, Refuses}
 use Rattle.cbor_decode_as.proofs.maps.PairsRead.{NoKey}
 use Rattle.cbor_decode_as.proofs.refused.Refusing.{refuses_map, refuses_then, refuses_stopped}
 
@@ -123,6 +123,20 @@ module _ (s m : Input) (old new : Remaining) (more : Bool) where
         let here : Refuses allowed m w k at (λ l bs. IsNotRead (reads f) (item_at (raws (formats_of f) l) levels bs)) = subst (λ (n : ℕ). Refuses allowed m w k at (λ l bs. IsNotRead (reads f) (item_at (raws (formats_of f) l) n bs))) same h' in
         refuses_then allowed s k at m (There f) (λ l bs. IsNotRead (reads f) (item_at (raws (formats_of f) l) levels bs)) (NoKey (reads f) (formats_of f) levels (remaining_of old))
         (λ l bs mid is none. not_key l bs mid is none) step here
+
+    -- where memory runs out in it, it is one for which memory may be asked
+    pub key_asks : (asks : Raw → Type 0) (e : Error) → Step s m (There f) → MemoryFor asks (formats_of g) (reads g) inside m e → MemoryForKey asks (formats_of f) (reads f) levels old s e
+    key_asks asks e step memory out bs reports x after rest next =
+        let first = step.reported bs reports in
+        let both = ok_is (Some after, next.start) (Some (remaining_of new), first.rest) (sym next.next ∙ first.holds.0) in
+        let item = next.key.item in
+        let read = (key_read (may_begin_key (formats_of f)) (item_at (raws (formats_of f) (limits s bs)) levels) next.start (item, rest) next.key.is).1 in
+        let at = subst (λ (mid : List ℕ). item_at (raws (formats_of f) (limits s bs)) levels mid ≡ Ok (item, rest)) (ap (λ (p : Option reader.Remaining × List ℕ). p.1) both) read in
+        let kept : limits m first.rest ≡ limits s bs = ap₂ (λ (n : ℕ) (r : Option ℕ). record { total = n; room = r }) first.total step.took.room in
+        let within = subst (λ (l : Limits). item_at (raws (formats_of f) l) levels first.rest ≡ Ok (item, rest)) (sym kept) at in
+        let level = subst (λ (n : ℕ). item_at (raws (formats_of f) (limits m first.rest)) n first.rest ≡ Ok (item, rest)) (sym same) within in
+        let is = subst (λ (h : Formats). item_at (raws (formats_of h) (limits m first.rest)) inside first.rest ≡ Ok (item, rest)) (sym formats) level in
+        memory out first.rest first.reports x rest (record { item = item; is = is; means = subst (λ (h : Formats). reads h item x) (sym formats) next.key.means })
 
     module _ (t : Input) (x : K) where
       pub key_next : Step s m (There f) → Step m t (λ l bs rest. IsRead (reads g) (item_at (raws (formats_of g) l) inside bs) x rest) → Step s t (IsKey (reads f) (formats_of f) levels (remaining_of old) (remaining_of new) (Some x))

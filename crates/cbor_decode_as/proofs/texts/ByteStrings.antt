@@ -20,7 +20,7 @@ use Rattle.cbor_decode_as.specs.Takes.{raws, lending, IsRead, IsNotRead}
 use Rattle.cbor_decode_as.specs.Strings.{content_at, is_lent_head, IsByteString, IsLentBytes, Lent, LendsBytes}
 use Rattle.cbor_decode_as.specs.declared.borrowed.Unread.{Unread}
 use Rattle.cbor_decode_as.proofs.numbers.Scalars.{refuses_on, opened_read}
-use Rattle.cbor_decode_as.proofs.texts.Contents.{untagged_string, no_bytes, bytes_read, none_at}
+use Rattle.cbor_decode_as.proofs.texts.StringContents.{untagged_string, no_bytes, bytes_read, none_at}
 use Rattle.cbor_decode_as.proofs.texts.Lending.{lends_bytes, lacks_all, bytes_lacks}
 
 -- a string of the kind of byte strings is one

@@ -24,7 +24,7 @@ use Rattle.cbor_decode_as.specs.Scalars.{IsNumber}
 use Rattle.cbor_decode_as.specs.Strings.{content_at}
 use Rattle.cbor_decode_as.specs.Takes.{raws, IsRead, IsNotRead, Refuses, TakesItem, OnceMade}
 use Rattle.cbor_decode_as.specs.declared.identifier.Why.{Why}
-use Rattle.cbor_decode_as.proofs.texts.Contents.{not_string, none_at, string_takes, bytes_takes, text_read}
+use Rattle.cbor_decode_as.proofs.texts.StringContents.{not_string, none_at, string_takes, bytes_takes, text_read}
 use Rattle.cbor_decode_as.proofs.texts.Lending.{no_bytes}
 use Rattle.cbor_decode_as.proofs.numbers.Nulls.{refuses_behind}
 use Rattle.cbor_decode_as.proofs.numbers.Scalars.{takes_scalar, opened_none}
@@ -165,8 +165,8 @@ module _ (numbered : ℤ → Option ℕ → Type 0) (names : List (List ℕ)) wh
   not_identifier h u m t b (raw.float w bits) place is tag k = is.1
 
   module _ (allowed : ReadErrorCode → Bool) (f : Formats) (l : Lends) (levels : ℕ) (s m : Input) (kept : ReadError) where
-    abbrev Refused : Input → Error → Type 0
-    Refused t e = Refuses allowed s t (code_of e) (offset_of e) (λ limits bs. IsNotRead (PassesTags Means) (item_at (raws f limits) levels bs))
+    abbrev NotIdentified : Input → Error → Type 0
+    NotIdentified t e = Refuses allowed s t (code_of e) (offset_of e) (λ limits bs. IsNotRead (PassesTags Means) (item_at (raws f limits) levels bs))
 
     abbrev Reads : Input → Option ℕ → Type 0
     Reads t place = Step s t (λ limits bs rest. IsRead (PassesTags Means) (item_at (raws f limits) levels bs) place rest)
@@ -202,7 +202,7 @@ module _ (numbered : ℤ → Option ℕ → Type 0) (names : List (List ℕ)) wh
         bytes_takes allowed f Means levels s m kept n opened t b place (λ r string lent. string_names r b place string at) taken
 
     bytes_refused : {t : Input} (n : Option ℕ) (e : Error) → TakesItemHead allowed f levels s m kept (Ok (head.Bytes n))
-        → Refuses allowed m t (code_of e) (offset_of e) (λ limits bs. (b rest : List ℕ) → content_at limits (head.Bytes n) bs ≡ Ok (b, rest) → ⊥) → Refused t e
+        → Refuses allowed m t (code_of e) (offset_of e) (λ limits bs. (b rest : List ℕ) → content_at limits (head.Bytes n) bs ≡ Ok (b, rest) → ⊥) → NotIdentified t e
     bytes_refused n e opened none =
         refuses_behind allowed s m (code_of e) (offset_of e) (λ limits bs rest. IsTaggedHead f limits (item_at (raws f limits) levels bs) opened.0 (head.Bytes n) rest) _ (λ limits bs. IsNotRead (PassesTags Means) (item_at (raws f limits) levels bs))
         (λ limits bs mid o none. opened_none f Means limits (item_at (raws f limits) levels bs) opened.0 (head.Bytes n) mid o (λ r rest x read is. no_bytes allowed f l levels s m kept limits (inside (raws f limits) opened.0) o.width n mid _ refl none (r, rest) read)) opened.1 none
@@ -212,11 +212,11 @@ module _ (numbered : ℤ → Option ℕ → Type 0) (names : List (List ℕ)) wh
     bytes_read n t later (Ok place) opened is = bytes_name n t is.0 place is.1 opened is.2
     bytes_read n t later (Err why) opened is = λ e made. bytes_refused n e opened (is e made)
 
-    pub other_refused : (h : Head) (e : Error) → ((n : ℕ) → h ≡ head.Unsigned n → ⊥) → NoNegative h → ((n : Option ℕ) → h ≡ head.Text n → ⊥) → ((n : Option ℕ) → h ≡ head.Bytes n → ⊥) → TakesItemHead allowed f levels s m kept (Ok h) → Refused m e
+    pub other_refused : (h : Head) (e : Error) → ((n : ℕ) → h ≡ head.Unsigned n → ⊥) → NoNegative h → ((n : Option ℕ) → h ≡ head.Text n → ⊥) → ((n : Option ℕ) → h ≡ head.Bytes n → ⊥) → TakesItemHead allowed f levels s m kept (Ok h) → NotIdentified m e
     other_refused h e u n t b opened = none_at allowed f Means levels s m kept h (code_of e) (offset_of e) (not_identifier h u n t b) opened
 
     -- an item that is no number
-    pub no_integer_refused : (h : Head) (e : Error) → ((z : ℤ) → IsNumber h z → ⊥) → ((n : Option ℕ) → h ≡ head.Text n → ⊥) → ((n : Option ℕ) → h ≡ head.Bytes n → ⊥) → TakesItemHead allowed f levels s m kept (Ok h) → Refused m e
+    pub no_integer_refused : (h : Head) (e : Error) → ((z : ℤ) → IsNumber h z → ⊥) → ((n : Option ℕ) → h ≡ head.Text n → ⊥) → ((n : Option ℕ) → h ≡ head.Bytes n → ⊥) → TakesItemHead allowed f levels s m kept (Ok h) → NotIdentified m e
     no_integer_refused h e none t b opened =
         let unsigned : (n : ℕ) → h ≡ head.Unsigned n → ⊥ = λ n is. none (pos n) (subst (λ (x : Head). IsNumber x (pos n)) (sym is) refl) in
         let negative : (n : ℕ) → h ≡ head.Negative n → ⊥ = λ n is. none (negsuc n) (subst (λ (x : Head). IsNumber x (negsuc n)) (sym is) refl) in

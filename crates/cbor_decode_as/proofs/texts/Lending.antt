@@ -31,7 +31,7 @@ use Rattle.cbor_decode_as.specs.declared.borrowed.Unread.{Unread}
 use Rattle.cbor_decode_as.specs.declared.borrowed.Unread.TheVariants.{Stopped, Other}
 use Rattle.cbor_decode_as.proofs.numbers.Scalars.{not_both, refuses_on, opened_none}
 use Rattle.cbor_decode_as.proofs.numbers.Nulls.{refuses_behind}
-use Rattle.cbor_decode_as.proofs.texts.Contents.{step_refuses, string_takes, bytes_takes, bytes_bad, bytes_stop, text_read, text_bad, text_stop, not_string, none_at}
+use Rattle.cbor_decode_as.proofs.texts.StringContents.{step_refuses, string_takes, bytes_takes, bytes_bad, bytes_stop, text_read, text_bad, text_stop, not_string, none_at}
 
 -- ---- parts
 

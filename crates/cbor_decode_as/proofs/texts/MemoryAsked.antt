@@ -32,7 +32,7 @@ use Rattle.cbor_decode_as.specs.declared.borrowed.Unread.{Unread}
 use Rattle.cbor_decode_as.specs.declared.borrowed.Unread.TheVariants.{Stopped, Other}
 use Rattle.cbor_decode_as.specs.declared.head.HeadAt.{HeadAt}
 use Rattle.cbor_decode_as.proofs.texts.ByteStrings.{not_bytes}
-use Rattle.cbor_decode_as.proofs.texts.Contents.{none_there, not_string}
+use Rattle.cbor_decode_as.proofs.texts.StringContents.{none_there, not_string}
 use Rattle.cbor_decode_as.proofs.heads.PassedMemory.{behind_asks}
 use Rattle.cbor_decode_as.proofs.numbers.Scalars.{scalar_unread, untagged-tagged, within_tags}
 

@@ -26,7 +26,7 @@ use Rattle.cbor_decode_as.specs.TaggedHeads.{RefusesBehind, behind_any, opened_a
 use Rattle.cbor_decode_as.specs.Strings.{IsNotUtf8, KeepsTextOf, ReportsString, behind_string, content_at}
 use Rattle.cbor_decode_as.specs.Takes.{FaultOrMessage, RefusesWhole, HasItem, ReportsFault, any_item}
 use Rattle.cbor_decode_as.specs.declared.head.HeadAt.{HeadAt}
-use Rattle.cbor_decode_as.proofs.texts.Contents.{bad_text, chunks_of, no_chunks, none_picked, passes, picked, stops_at}
+use Rattle.cbor_decode_as.proofs.texts.StringContents.{bad_text, chunks_of, no_chunks, none_picked, passes, picked, stops_at}
 use Rattle.cbor_decode_as.proofs.heads.PassedOver.{behind_stands, behind_stops, behind_whole, reported_or_excused}
 use Rattle.cbor_decode_as.proofs.numbers.Scalars.{reported_why}
 

@@ -14,7 +14,7 @@ use Rattle.cbor_decode.specs.Gives.{Step}
 use Rattle.cbor_decode.proofs.ShortHeads.{short_step}
 use Rattle.cbor_decode_as.specs.Takes.{raws, IsRead}
 use Rattle.cbor_decode_as.proofs.heads.Opened.{text_opened}
-use Rattle.cbor_decode_as.proofs.texts.Contents.{text_takes}
+use Rattle.cbor_decode_as.proofs.texts.StringContents.{text_takes}
 use Rattle.cbor_decode_as.proofs.texts.Lending.{hand_step}
 
 -- ---- the input between a head of one byte and its content

@@ -7,7 +7,7 @@ use Rattle.cbor_model.specs.Head.{short}
 use Rattle.cbor_model.specs.Spelling.{spell}
 use Rattle.cbor_model.specs.Canonical.{IsStorableInteger}
 use Rattle.cbor_model.specs.Document.{Doc, Docs, DocPairs, Fields, null, bool, integer, float, bytes, text, sequence, mapping, structure, unit_variant, newtype_variant, tuple_variant, struct_variant, tagged, encoded, no_docs, doc, no_doc_pairs, doc_pair, no_fields, field, doc_count, doc_pair_count, field_count, identifier, document_bytes, IsStorableDocument, AreStorableDocuments, AreStorableDocumentPairs, AreStorableFields}
-use Rattle.cbor_model.specs.Parts.{Part, nothing, item, array_head, map_head, ending, tag_head, newtype_head, tuple_head, struct_head, field_part, both, said, array_start, map_start, newtype_start, tuple_start, struct_start, parts, items, pairs, fields, part_bytes, IsStorablePart}
+use Rattle.cbor_model.specs.Parts.{Part, nothing, item, array_head, map_head, ending, tag_head, newtype_head, tuple_head, struct_head, field_part, in_turn, said, array_start, map_start, newtype_start, tuple_start, struct_start, parts, items, pairs, fields, part_bytes, IsStorablePart}
 use Rattle.cbor_model.specs.Unstored.{StandsBefore, StandsBeforeAny, StandsBeforePairs, StandsBeforeFields, StandsBeforeIn}
 
 -- ---- where all is stored there is none
@@ -59,8 +59,8 @@ part_stored (newtype_head i n) p l front s h = h
 part_stored (tuple_head i n k) p l front s h = h
 part_stored (struct_head i n) p l front s h = h
 part_stored (field_part i n d) p l front s h = all_stored d p l h.0 s h.2
-part_stored (both f g) p l front s (inl x) = part_stored f p l front s.0 x
-part_stored (both f g) p l front s (inr y) = part_stored g p l y.1.0 s.1 y.1.2
+part_stored (in_turn f g) p l front s (inl x) = part_stored f p l front s.0 x
+part_stored (in_turn f g) p l front s (inr y) = part_stored g p l y.1.0 s.1 y.1.2
 
 -- ---- in a document it is in the parts
 

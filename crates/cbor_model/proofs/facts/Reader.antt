@@ -5,7 +5,7 @@ pub use Rattle.cbor_model.proofs.reader.Majors.{simple_number}
 -- equal results of reading have equal values
 pub use Rattle.cbor_model.proofs.reader.ReaderSteps.{ok_is}
 -- an item takes at least a byte, and no step gives bytes back
-pub use Rattle.cbor_model.proofs.reader.Taken.{taken, chunk_taken, next_taken}
+pub use Rattle.cbor_model.proofs.reader.BytesTaken.{taken, chunk_taken, next_taken}
 -- more fuel than bytes changes nothing
 pub use Rattle.cbor_model.proofs.reader.Fuel.{chunks_by-fuel, parts_by-fuel, pair_taken}
 -- bytes that are valid to their end are UTF-8

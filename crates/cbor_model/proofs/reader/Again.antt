@@ -12,7 +12,7 @@ use Rattle.cbor_model.specs.Raw.{Length, definite, indefinite, Raw, Raws, no_raw
 use Rattle.cbor_model.specs.Spelling.{spell, spell_all, spell_pairs, chunk, simple_byte, float_spelling, break}
 use Rattle.cbor_model.specs.Refusal.{Refusal, end_in_array, end_in_map}
 use Rattle.cbor_model.specs.Reader.{Reads, ◌>>=◌, Reading, byte_at, with_number, with_length, float_at, simple_at, string_at, checked_text, text_at, content_of_chunk, chunk_at, chunks_by, string_chunks_at, text_chunks_at, Remaining, counted, to_break, next_at, Parts, parts_by, parts_at, pair_at, items_of, pairs_of, array_at, map_at, tag_at, content_at, after_first, item_by, item_at, inside}
-use Rattle.cbor_model.proofs.reader.Made.{made, made_all, made_pairs}
+use Rattle.cbor_model.proofs.reader.MadeItems.{made, made_all, made_pairs}
 use Rattle.cbor_model.proofs.reader.ReaderSteps.{bytes_again, wide16, wide32, wide64, number_again, info-below, width_of-info, number_behind_again, high_of, low_of, BeginsWith, key_is}
 use Rattle.cbor_model.proofs.reader.FoundParts.{Passes, MayBeKey}
 use Rattle.cbor_model.proofs.reader.FirstBytes.{IsBegun, begun, begun-length, head-no_break, begins_front}

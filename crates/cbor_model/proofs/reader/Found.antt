@@ -28,7 +28,7 @@ use Rattle.cbor_model.specs.Reader.{parts_at, key_at}
 use Rattle.cbor_model.specs.Reader.{pair_at, items_of}
 use Rattle.cbor_model.specs.Reader.{pairs_of, array_at, map_at, tag_at, content_at}
 use Rattle.cbor_model.specs.Reader.{after_first, item_by, item_at}
-use Rattle.cbor_model.proofs.reader.Made.{made, made_all, made_pairs}
+use Rattle.cbor_model.proofs.reader.MadeItems.{made, made_all, made_pairs}
 use Rattle.cbor_model.proofs.reader.ReaderSteps.{AreBytes-rest, bind_ok, chosen, at_number, done, read_as}
 use Rattle.cbor_model.proofs.reader.ReaderSteps.{not_ok, bytes_found, IsWide, wide16, wide32, wide64}
 use Rattle.cbor_model.proofs.reader.ReaderSteps.{number_found, number_behind_found, first_is}

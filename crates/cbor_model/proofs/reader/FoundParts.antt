@@ -24,7 +24,7 @@ use Rattle.cbor_model.specs.Reader.{begins_chunk}
 use Rattle.cbor_model.specs.Reader.{content_of_chunk, chunk_at, chunks_by}
 use Rattle.cbor_model.specs.Reader.{Remaining, counted, to_break}
 use Rattle.cbor_model.specs.Reader.{next_at, Parts, go_on, parts_by}
-use Rattle.cbor_model.proofs.reader.Made.{made, made_all, made_pairs}
+use Rattle.cbor_model.proofs.reader.MadeItems.{made, made_all, made_pairs}
 use Rattle.cbor_model.proofs.reader.ReaderSteps.{AreBytes-rest, bind_ok, chosen, ok_is, read_as}
 use Rattle.cbor_model.proofs.reader.ReaderSteps.{not_ok, bytes_found}
 use Rattle.cbor_model.proofs.reader.ReaderSteps.{number_behind_found, first_is}
@@ -88,9 +88,9 @@ Ended Are (counted n) bs x = Are n bs x
 Ended Are to_break bs x = (n : ℕ) × Are n bs (x.0, 0xff ∷ x.1)
 
 -- what remains before a part, where this remains after it
-abbrev pub another : Remaining → Remaining
-another (counted n) = counted (suc n)
-another to_break = to_break
+abbrev pub before_next : Remaining → Remaining
+before_next (counted n) = counted (suc n)
+before_next to_break = to_break
 
 -- a chunk with the first byte b
 pub record IsChunkOf (exceeds : ℕ → Bool) (major b : ℕ) (bs : List ℕ) (x : Chunk × List ℕ) : Type 0 where
@@ -233,16 +233,16 @@ module _ {Part Whole : Type 0} (ps : Parts Part Whole) (Is : List ℕ → Part �
     -- one part, and those after it
     one_found : (fuel : ℕ) (remaining : Remaining) (bs : List ℕ) (x : Whole × List ℕ) → AreBytes bs
         → ((more : List ℕ) (y : Whole × List ℕ) → AreBytes more → parts_by ps fuel remaining more ≡ Ok y → Ended Are remaining more y)
-        → go_on ps (parts_by ps fuel) (Some remaining) bs ≡ Ok x → Ended Are (another remaining) bs x
+        → go_on ps (parts_by ps fuel) (Some remaining) bs ≡ Ok x → Ended Are (before_next remaining) bs x
     one_found fuel remaining bs x fits others is =
         let a = bind_ok (ps.part bs) (λ first. parts_by ps fuel remaining first.1 >>= λ rest. Ok (ps.add first.0 rest.0, rest.1)) x is in
         let b = bind_ok (parts_by ps fuel remaining a.0.1) (λ rest. Ok (ps.add a.0.0 rest.0, rest.1)) x a.2 in
         let one = found bs a.0 fits a.1 in
-        read_as (Ended Are (another remaining) bs) (ps.add a.0.0 b.0.0, b.0.1) x b.2 (behind_one remaining a.0.1 b.0 bs a.0.0 one (others a.0.1 b.0 (fit bs a.0 one) b.1))
+        read_as (Ended Are (before_next remaining) bs) (ps.add a.0.0 b.0.0, b.0.1) x b.2 (behind_one remaining a.0.1 b.0 bs a.0.0 one (others a.0.1 b.0 (fit bs a.0 one) b.1))
       where
         behind_one : (remaining : Remaining) (more : List ℕ) (y : Whole × List ℕ) (bs : List ℕ) (first : Part)
             → Is bs (first, more) → Ended Are remaining more y
-            → Ended Are (another remaining) bs (ps.add first y.0, y.1)
+            → Ended Are (before_next remaining) bs (ps.add first y.0, y.1)
         behind_one (counted n) more y bs first one all = added n bs more y.1 first y.0 one all
         behind_one to_break more y bs first one all = (suc all.0, added all.0 bs more (0xff ∷ y.1) first y.0 one all.1)
 

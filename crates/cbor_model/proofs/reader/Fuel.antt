@@ -2,7 +2,7 @@
 use Rattle.std.proofs.Common.{◌≡◌, ℕ, zero, suc, ◌<◌, ◌≤◌, Bool, true, false, cond, eqb, List, [], ◌∷◌, length, Option, Some, None, Result, Ok, Err, refl, ap, arith, ◌+◌}
 use Rattle.cbor_model.specs.Reader.{Fault, Reads, ◌>>=◌, byte_at, chunk_at, chunks_by, Remaining, next_at, Parts, go_on, parts_by, key_at, pair_at}
 use Rattle.cbor_model.proofs.reader.ReaderSteps.{bind_ok, ok_is, key_read}
-use Rattle.cbor_model.proofs.reader.Taken.{chunk_taken, next_taken}
+use Rattle.cbor_model.proofs.reader.BytesTaken.{chunk_taken, next_taken}
 
 bind_same : {A B : Type 0} (r : Result A Fault) (f g : A → Result B Fault) → ((x : A) → r ≡ Ok x → f x ≡ g x) → (r >>= f) ≡ (r >>= g)
 bind_same (Ok x) f g each = each x refl

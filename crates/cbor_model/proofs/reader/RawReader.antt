@@ -9,7 +9,7 @@ use Rattle.cbor_model.specs.Formats.{Formats, all_formats, IsAllowedKey, HasAllo
 use Rattle.cbor_model.specs.Reader.{item_at}
 use Rattle.cbor_model.specs.RawReader.{raws_where, raws_in, Begins}
 use Rattle.std.proofs.lemmas.Bool.{lt-ltb}
-use Rattle.cbor_model.proofs.reader.Made.{made, made_all, made_pairs}
+use Rattle.cbor_model.proofs.reader.MadeItems.{made, made_all, made_pairs}
 use Rattle.cbor_model.proofs.reader.FoundParts.{Passes, MayBeKey}
 use Rattle.cbor_model.proofs.reader.Found.{found}
 use Rattle.cbor_model.proofs.reader.FirstBytes.{EachKey-map, key_begins, begun_allows, all_allowed}

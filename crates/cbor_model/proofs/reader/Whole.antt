@@ -13,7 +13,7 @@ use Rattle.cbor_model.specs.Formats.{all_formats, IsAllowedKey}
 use Rattle.cbor_model.specs.Refusal.{trailing_data}
 use Rattle.cbor_model.specs.Reader.{Fault, values_in, exceeds_most, item_at, read_value_in}
 use Rattle.cbor_model.specs.Laws.{SpellsValue}
-use Rattle.cbor_model.proofs.reader.Made.{made, made-value}
+use Rattle.cbor_model.proofs.reader.MadeItems.{made, made-value}
 use Rattle.cbor_model.proofs.reader.ReaderSteps.{bind_ok, chosen, ok_is, not_ok}
 use Rattle.cbor_model.proofs.reader.FirstBytes.{EachKey-map, key_begins, all_allowed}
 use Rattle.cbor_model.proofs.reader.FoundParts.{Passes, MayBeKey}

@@ -28,7 +28,7 @@ use Rattle.cbor_model.specs.Allowed.{IsOver}
 use Rattle.cbor_model.proofs.reader.ReaderSteps.{wide8, wide16, wide32, wide64, number_behind_found, bytes_found}
 use Rattle.cbor_model.proofs.reader.ReaderSteps.{first_is, AreBytes-rest}
 use Rattle.cbor_model.proofs.reader.FoundParts.{whole_head, behind_head, behind_first, chunk_found, chunks_found}
-use Rattle.cbor_model.proofs.reader.Taken.{chunk_taken}
+use Rattle.cbor_model.proofs.reader.BytesTaken.{chunk_taken}
 use Rattle.cbor_model.proofs.refusals.FaultMeaning.{Meaning, Reports, Reports-bind, Reports-cond}
 use Rattle.cbor_model.proofs.refusals.Completion.{IsCutBehind, cut_behind, float_cut, string_cut, IsCutChunk}
 use Rattle.cbor_model.proofs.refusals.Completion.{chunk_head_cut, chunk_content_cut, and_then, and_then-fit}

@@ -27,7 +27,7 @@ module _ {Item Items Pairs : Type 0} {m : Reading Item Items Pairs} {Cond : ℕ 
       (subst (λ (t : List ℕ). Bad L t f (length before + (length pre + n))) (sym (append_assoc before pre bs)) all)
 
   -- what lies before the place is refused
-  pub record Refused (L : ℕ) (bytes : List ℕ) (n : ℕ) : Type 0 where
+  pub record FaultBefore (L : ℕ) (bytes : List ℕ) (n : ℕ) : Type 0 where
     pub fault : Fault
     pub is : item_at m L bytes ≡ Err fault
     pub bad : Bad L bytes fault n
@@ -39,7 +39,7 @@ module _ {Item Items Pairs : Type 0} {m : Reading Item Items Pairs} {Cond : ℕ 
     pub cond : Cond left bs
     pub refuses : (f : Fault) → Last → item_at m left bs ≡ Err f → item_at m L (p ++ bs) ≡ Err f
 
-  pub through : (k : ℕ) (p : List ℕ) (w : IsWanted k p) (L : ℕ) (bs : List ℕ) → Cond L (p ++ bs) → Refused L (p ++ bs) (length p) ⊎ Reached k p (LastComes w bs) L bs
+  pub through : (k : ℕ) (p : List ℕ) (w : IsWanted k p) (L : ℕ) (bs : List ℕ) → Cond L (p ++ bs) → FaultBefore L (p ++ bs) (length p) ⊎ Reached k p (LastComes w bs) L bs
   through k p at_first L bs cond = inr (record { left = L; levels = omega arith; cond = cond; refuses = λ f last is. is })
   through k p (inside j before o items wanted opens fits place) L bs cond =
       let pre = frame o items in
@@ -71,7 +71,7 @@ module _ {Item Items Pairs : Type 0} {m : Reading Item Items Pairs} {Cond : ℕ 
 
       refused : (left : ℕ) (f : Fault) (n : ℕ) → L ≡ j + left → item_at m left (frame o items ++ bs) ≡ Err f → n ≤ length (frame o items) → Bad left (frame o items ++ bs) f n
           → ((f : Fault) → LastComes wanted (frame o items ++ bs) → item_at m left (frame o items ++ bs) ≡ Err f → item_at m L (before ++ (frame o items ++ bs)) ≡ Err f)
-          → Refused L ((before ++ frame o items) ++ bs) (length (before ++ frame o items))
+          → FaultBefore L ((before ++ frame o items) ++ bs) (length (before ++ frame o items))
       refused left f n levels is few bad refuses = record {
         fault = f;
         is = ap (item_at m L) assoc ∙ refuses f begins is;
@@ -82,7 +82,7 @@ module _ {Item Items Pairs : Type 0} {m : Reading Item Items Pairs} {Cond : ℕ 
 
       by_level : (left : ℕ) → L ≡ j + left → Cond left (frame o items ++ bs)
           → ((f : Fault) → LastComes wanted (frame o items ++ bs) → item_at m left (frame o items ++ bs) ≡ Err f → item_at m L (before ++ (frame o items ++ bs)) ≡ Err f)
-          → Refused L ((before ++ frame o items) ++ bs) (length (before ++ frame o items)) ⊎ Reached (suc j) (before ++ frame o items) (Comes o items bs) L bs
+          → FaultBefore L ((before ++ frame o items) ++ bs) (length (before ++ frame o items)) ⊎ Reached (suc j) (before ++ frame o items) (Comes o items bs) L bs
       by_level zero levels cond refuses =
           let rest = spell_all items ++ bs in
           let f = before' rest in

@@ -20,7 +20,7 @@ use Rattle.cbor_model.proofs.refusals.Faults.{reported}
 use Rattle.cbor_model.proofs.refusals.InnerFaults.{LastComes}
 use Rattle.cbor_model.proofs.refusals.Passage.{Passage}
 use Rattle.cbor_model.proofs.refusals.PassedOpenings.{array_ends, map_ends}
-use Rattle.cbor_model.proofs.refusals.ReachedPlaces.{Refused, Reached, through, bad_wanted}
+use Rattle.cbor_model.proofs.refusals.ReachedPlaces.{FaultBefore, Reached, through, bad_wanted}
 use Rattle.cbor_model.proofs.refusals.EarlierRefusals.{Special, special_more, special_behind, reported_within}
 
 -- What a reading lets pass, in an input of this length, with a scratch of this length or none: a
@@ -115,7 +115,7 @@ module _ {Item Items Pairs : Type 0} (m : Reading Item Items Pairs) (total : ℕ
   }
 
   abbrev pub Refuses : ℕ → List ℕ → ℕ → Type 0
-  Refuses L bytes n = Refused passage L bytes n
+  Refuses L bytes n = FaultBefore passage L bytes n
 
   abbrev pub Reaches : ℕ → List ℕ → Type 0 → ℕ → List ℕ → Type 0
   Reaches k p Last L bs = Reached passage k p Last L bs

@@ -3,7 +3,7 @@
 ghost use Rattle.std.specs.Prelude.{◌≡◌, ◌-◌, ◌+◌, ◌^◌, ◌<◌, IfOk, Some, false};
 ghost use Rattle.std.specs.Borrow.{sem, RestsIfErr};
 ghost use Rattle.cbor_model.specs.Document.{text, unit_variant, newtype_variant};
-ghost use Rattle.cbor_model.specs.Parts.{Part, item, both, array_head, map_head, ending};
+ghost use Rattle.cbor_model.specs.Parts.{Part, item, in_turn, array_head, map_head, ending};
 ghost use Rattle.cbor_model.specs.Parts.{newtype_head, tuple_head, struct_head, field_part};
 ghost use Rattle.cbor_ser.specs.Documents.{key_document};
 ghost use Rattle.cbor_ser.specs.Serialized.{Added, Serialized};
@@ -273,11 +273,11 @@ impl<W: Write> Serializer<W> {
         len: usize,
     ) -> Result<StructSerializer<'a, W>>
         ensures* rests { sem 𝓛 (RestsIfErr (the_row W.row) self.entry (λ s. s.ser.ghost_name)
-            result (λ last. Serialized W.written W.refuses W.references W.capacity self.old (both
+            result (λ last. Serialized W.written W.refuses W.references W.capacity self.old (in_turn
             (struct_head index variant.now) (map_head (Some len))) last result)) }
         ensures same_reference { IfOk result (λ s. s.ser.ghost_name ≡ self.entry.ghost_name) }
         ensures head { IfOk result (λ s. Added W.written W.references W.capacity self.old
-            (both (struct_head index variant.now) (map_head (Some len))) s.ser.now) }
+            (in_turn (struct_head index variant.now) (map_head (Some len))) s.ser.now) }
         ensures state { IfOk result (λ s. (s.left ≡ len) × (s.next ≡ 0)) }
     {
         self.write_struct_head(index, variant, len)?;
@@ -345,7 +345,7 @@ impl<W: Write> Serializer<W> {
     // Begins an array in which the parts of a variant follow its identifier.
     fn write_legacy_head(&mut self, len: usize, index: u32, name: &str) -> Result<()>
         ensures { Serialized W.written W.refuses W.references W.capacity self.old
-            (both (array_head (Some len)) (item (unit_variant index name.now))) self.new result }
+            (in_turn (array_head (Some len)) (item (unit_variant index name.now))) self.new result }
     {
         self.write_array_head(Some(len))?;
         self.write_identifier(index, name)
@@ -354,7 +354,7 @@ impl<W: Write> Serializer<W> {
     // Begins the map of a variant's name, or of its number, and what it holds.
     fn write_map_key(&mut self, by_number: bool, index: u32, name: &str) -> Result<()>
         ensures { Serialized W.written W.refuses W.references W.capacity self.old
-            (both (map_head (Some 1)) (item (key_document by_number index name.now)))
+            (in_turn (map_head (Some 1)) (item (key_document by_number index name.now)))
             self.new result }
     {
         self.write_map_head(Some(1))?;
@@ -389,7 +389,7 @@ impl<W: Write> Serializer<W> {
     // Appends what precedes the fields of a struct variant.
     pub(crate) fn write_struct_head(&mut self, index: u32, name: &str, len: usize) -> Result<()>
         ensures { Serialized W.written W.refuses W.references W.capacity self.old
-            (both (struct_head index name.now) (map_head (Some len))) self.new result }
+            (in_turn (struct_head index name.now) (map_head (Some len))) self.new result }
     {
         self.write_struct_key(index, name)?;
         self.write_map_head(Some(len))

@@ -4,7 +4,7 @@ ghost use Rattle.std.specs.Prelude.{◌++◌, length, pos, Some, IfSome};
 ghost use Rattle.cbor_model.specs.Document.{bool, bytes, document_of, integer, null, text};
 ghost use Rattle.cbor_model.specs.Document.{unit_variant};
 ghost use Rattle.cbor_model.specs.Head.{short};
-ghost use Rattle.cbor_model.specs.Parts.{Part, array_head, both, field_part, item, map_head};
+ghost use Rattle.cbor_model.specs.Parts.{Part, array_head, in_turn, field_part, item, map_head};
 ghost use Rattle.cbor_io.specs.Head.{major_number};
 ghost use Rattle.cbor_value.specs.View.{float_view};
 ghost use Rattle.cbor_ser.specs.Documents.{key_document};
@@ -151,7 +151,7 @@ impl<W: Write> Serializer<W> {
     ) -> WriteDone
         ensures { IfSome (A.document field.now) (λ d.
             Stepped W.written W.refuses W.references W.capacity self.old
-            (both (item (integer label)) (item d)) self.new result refusal.new) }
+            (in_turn (item (integer label)) (item d)) self.new result refusal.new) }
     {
         self.label_step(label, refusal)?;
         field.serialize_content(self, refusal)

@@ -5,9 +5,9 @@ use Rattle.cbor_model.specs.Canonical.{canon}
 use Rattle.cbor_model.specs.Document.{document_bytes}
 use Rattle.cbor_io.specs.Write.{AppendsBeginning, IsFault, Wrote}
 use Rattle.cbor_ser.specs.Serialized.{WroteValue}
-use Rattle.cbor_writer.specs.Given.{given}
+use Rattle.cbor_writer.specs.GivenByBlocks.{given}
 use Rattle.cbor_writer.specs.Held.{given_to}
-use Rattle.cbor_writer.proofs.Sent.{beginning_held, beginning_through, begun, through}
+use Rattle.cbor_writer.proofs.SentBlocks.{beginning_held, beginning_through, begun, through}
 use Rattle.cbor_writer.proofs.Values.{value_begun, value_through}
 use Rattle.cbor_writer.proofs.to_io_writer.Goals as goal
 

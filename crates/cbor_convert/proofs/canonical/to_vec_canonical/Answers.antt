@@ -1,7 +1,7 @@
 use Rattle.cbor_model.specs.Document.{document_of, IsStorableDocument}
 use Rattle.cbor_model.proofs.facts.Documents.{storable_document}
 use Rattle.cbor_value.specs.View.{view}
-use Rattle.cbor_convert.proofs.Made.{refused_as}
+use Rattle.cbor_convert.proofs.MemoryAnswers.{refused_as}
 use Rattle.cbor_convert.proofs.canonical.to_vec_canonical.Goals as goal
 
 pub returns-clause-refused : goal.returns-clause-refused

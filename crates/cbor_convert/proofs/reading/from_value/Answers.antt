@@ -6,7 +6,7 @@ use Rattle.cbor_decode.specs.FirstRefusal.{ReportsFirst}
 use Rattle.cbor_decode_as.specs.Takes.{WhereTotal}
 use Rattle.cbor_de.specs.Whole.{from_reader_context}
 use Rattle.cbor_de.proofs.facts.Forms.{only_err}
-use Rattle.cbor_convert.proofs.Given.{first_by_memory, not_refused, reported_unstorable, value_acceptable, value_read, spelled_so}
+use Rattle.cbor_convert.proofs.CanonicalReadings.{first_by_memory, not_refused, reported_unstorable, value_acceptable, value_read, spelled_so}
 use Rattle.cbor_convert.proofs.reading.from_value.Goals as goal
 
 pub returns-in_err-bytes-clause-accepted : goal.returns-in_err-bytes-clause-accepted

@@ -20,7 +20,7 @@ use Rattle.cbor_decode.specs.Decoder.{formats_of}
 use Rattle.cbor_decode.specs.Gives.{Limits, values, Step, Stopped, Gives}
 use Rattle.cbor_decode.specs.Heads.{remaining_of, made_of, first_at, first_of_next}
 use Rattle.cbor_decode.proofs.Steps.{subst_both, gives_seen, step_same, step_map, step_then, stopped_map, stopped_then, memory_stops}
-use Rattle.cbor_decode.proofs.Calls.{fault_stops, first_stops}
+use Rattle.cbor_decode.proofs.SourceCalls.{fault_stops, first_stops}
 use Rattle.cbor_decode.proofs.Items.{SoFar, one_read, one_stops, items_begin, ItemBegun, item_begins, goes_on, faulted, cut, is_done}
 use Rattle.cbor_decode.proofs.Pairs.{PairsSoFar, pairs_begin, KeyBegun, key_begins, KeyRead, key_ends, pairs_go_on, key_refused, key_faulted, value_faulted, pairs_cut, pairs_done}
 use Rattle.cbor_decode.proofs.Inside.{array_too_deep, map_too_deep, tag_too_deep, array_inside, map_inside, tag_inside, array_stops, map_stops, tag_stops}

@@ -13,7 +13,7 @@ use Rattle.cbor_decode.specs.Decoder.{formats_of}
 use Rattle.cbor_decode.specs.Gives.{values, Step, Stopped, Gives}
 use Rattle.cbor_decode.specs.Heads.{after_head, head_at, remaining_of, first_at, first_of_next, passed}
 use Rattle.cbor_decode.proofs.Steps.{subst_both, step_same, step_then, stopped_map, stopped_then, gives_then}
-use Rattle.cbor_decode.proofs.Calls.{fault_stops, first_stops}
+use Rattle.cbor_decode.proofs.SourceCalls.{fault_stops, first_stops}
 use Rattle.cbor_decode.proofs.Heads.{value_after, value_stops_at}
 use Rattle.cbor_decode.proofs.Inside.{array_too_deep, map_too_deep, tag_too_deep, value_first, value_stops}
 use Rattle.cbor_decode.proofs.Skipped.{gives_same, items, pairs, ItemsSoFar, PairsSoFar, PartBegun, part_begins, item_passed, item_stops, items_cut, items_end, KeyPassed, key_passed, pair_passed, key_refused, key_stops, pairs_cut, pairs_end, array_passed, map_passed, tag_passed}

@@ -6,7 +6,7 @@ use Rattle.cbor_model.specs.Refusal.{unassigned_code}
 use Rattle.cbor_model.specs.Reader.{number_at, number_behind}
 use Rattle.cbor_io.specs.declared.read_error.ReadErrorCode.TheVariants.{UnassignedCode}
 use Rattle.cbor_decode.proofs.Steps.{step_same, step_map, stopped_map, gives_map}
-use Rattle.cbor_decode.proofs.Calls.{fault_stops}
+use Rattle.cbor_decode.proofs.SourceCalls.{fault_stops}
 use Rattle.cbor_decode.proofs.WholeHeads.{at_24, at_25, at_26, at_27}
 use Rattle.cbor_decode.proofs.Decoder.argument.Goals as goal
 

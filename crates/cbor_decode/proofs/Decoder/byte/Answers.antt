@@ -1,5 +1,5 @@
 use Rattle.std.proofs.Common.{rules, ◌≡◌, Some, slice_get}
-use Rattle.cbor_decode.proofs.Calls.{hand_step}
+use Rattle.cbor_decode.proofs.SourceCalls.{hand_step}
 use Rattle.cbor_decode.proofs.Decoder.byte.Goals as goal
 
 pub returns-in-Some-clause-read : goal.returns-in-Some-clause-read

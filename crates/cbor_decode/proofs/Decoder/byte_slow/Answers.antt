@@ -2,7 +2,7 @@ use Rattle.std.proofs.Common.{◌≡◌, Ok, refl}
 use Rattle.cbor_model.specs.Refusal.{end_in_value}
 use Rattle.cbor_model.specs.Reader.{byte_at}
 use Rattle.cbor_io.specs.declared.read_error.ReadErrorCode.TheVariants.{EofWhileParsingValue}
-use Rattle.cbor_decode.proofs.Calls.{next_step, next_stops, end_stops}
+use Rattle.cbor_decode.proofs.SourceCalls.{next_step, next_stops, end_stops}
 use Rattle.cbor_decode.proofs.Decoder.byte_slow.Goals as goal
 
 pub returns-in-Ok-Some-clause-read : goal.returns-in-Ok-Some-clause-read

@@ -1,4 +1,4 @@
-use Rattle.cbor_decode.proofs.Calls.{bytes_stop}
+use Rattle.cbor_decode.proofs.SourceCalls.{bytes_stop}
 use Rattle.cbor_decode.proofs.Decoder.bytes_slow.Goals as goal
 
 pub returns-in-Err-clause-read : goal.returns-in-Err-clause-read

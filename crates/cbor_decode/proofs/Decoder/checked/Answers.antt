@@ -14,7 +14,7 @@ use Rattle.cbor_io.specs.declared.read_error.ReadError.{ReadError}
 use Rattle.cbor_io.specs.declared.read_error.ReadErrorCode.TheVariants.{InvalidUtf8}
 use Rattle.cbor_io.specs.declared.read_error.ReadErrorCode.{ReadErrorCode}
 use Rattle.cbor_decode.specs.Gives.{FailsBy, Limits, limits, values, ReportsIo, Stops}
-use Rattle.cbor_decode.proofs.Calls.{kept_stops}
+use Rattle.cbor_decode.proofs.SourceCalls.{kept_stops}
 use Rattle.cbor_decode.proofs.Steps.{took_none, step_same}
 use Rattle.cbor_decode.proofs.Decoder.checked.Goals as goal
 

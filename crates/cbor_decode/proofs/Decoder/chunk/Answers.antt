@@ -9,7 +9,7 @@ use Rattle.cbor_io.specs.declared.read_error.ReadErrorCode.TheVariants.{Unexpect
 use Rattle.cbor_decode.specs.Gives.{Limits}
 use Rattle.cbor_read.proofs.facts.Sources.{some_then}
 use Rattle.cbor_decode.proofs.Steps.{stopped_map}
-use Rattle.cbor_decode.proofs.Calls.{fault_stops, source_stops}
+use Rattle.cbor_decode.proofs.SourceCalls.{fault_stops, source_stops}
 use Rattle.cbor_decode.proofs.Chunk.{no_chunk, chunk_number, chunk_joined, chunk_refused}
 use Rattle.cbor_decode.proofs.Decoder.chunk.Goals.{then-ne-via-then-ne, then-ne-via-else-ne+then-low-ge28}
 use Rattle.cbor_decode.proofs.Decoder.chunk.Goals as goal

@@ -3,7 +3,7 @@ use Rattle.cbor_decode.specs.Gives.{end_at}
 use Rattle.cbor_read.specs.Source.{Input}
 use Rattle.cbor_decode.specs.AtEnd.{EndStops}
 use Rattle.cbor_decode.proofs.AtEnd.{end_stays, trailing_takes, source_takes}
-use Rattle.cbor_decode.proofs.Calls.{next_stops, end_step}
+use Rattle.cbor_decode.proofs.SourceCalls.{next_stops, end_step}
 use Rattle.cbor_decode.proofs.Decoder.ended.Goals as goal
 
 pub returns-in-Ok-None-clause-read : goal.returns-in-Ok-None-clause-read

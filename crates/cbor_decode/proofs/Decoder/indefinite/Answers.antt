@@ -9,7 +9,7 @@ use Rattle.cbor_io.specs.declared.head.Major.TheVariants.{UnsignedInteger, Negat
 use Rattle.cbor_io.specs.declared.read_error.ReadErrorCode.TheVariants.{UnassignedCode}
 use Rattle.cbor_decode.specs.Heads.{head_of, simple_head}
 use Rattle.cbor_decode.proofs.Steps.{step_same}
-use Rattle.cbor_decode.proofs.Calls.{fault_stops}
+use Rattle.cbor_decode.proofs.SourceCalls.{fault_stops}
 use Rattle.cbor_decode.proofs.Decoder.indefinite.Goals as goal
 
 pub returns-in-ByteString-clause-read : goal.returns-in-ByteString-clause-read

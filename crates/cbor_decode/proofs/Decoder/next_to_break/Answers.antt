@@ -1,7 +1,7 @@
 use Rattle.std.proofs.Common.{refl}
 use Rattle.cbor_model.specs.Reader.{to_break}
 use Rattle.cbor_decode.specs.Heads.{end_of, first_at}
-use Rattle.cbor_decode.proofs.Calls.{another_step, last_step, next_stops, no_break}
+use Rattle.cbor_decode.proofs.SourceCalls.{another_step, last_step, next_stops, no_break}
 use Rattle.cbor_decode.proofs.Decoder.next_to_break.Goals as goal
 
 pub returns-in-Ok-Some-eq255-clause-read : goal.returns-in-Ok-Some-eq255-clause-read

@@ -1,6 +1,6 @@
 use Rattle.std.proofs.lemmas.Result.{err_from_is_err_and}
 use Rattle.std.specs.Int.{w64}
-use Rattle.cbor_decode.proofs.Calls.{number_stops}
+use Rattle.cbor_decode.proofs.SourceCalls.{number_stops}
 use Rattle.cbor_decode.proofs.Decoder.number_of_8.Goals as goal
 
 pub returns-in_err-fill-clause-read : goal.returns-in_err-fill-clause-read

@@ -10,7 +10,7 @@ use Rattle.cbor_io.specs.declared.read_error.ReadErrorCode.TheVariants.{Unassign
 use Rattle.cbor_decode.specs.declared.head.Head.TheVariants.{Float}
 use Rattle.cbor_decode.specs.Heads.{simple_head}
 use Rattle.cbor_decode.proofs.Steps.{step_same, step_map, stopped_map}
-use Rattle.cbor_decode.proofs.Calls.{fault_stops}
+use Rattle.cbor_decode.proofs.SourceCalls.{fault_stops}
 use Rattle.cbor_decode.proofs.Decoder.simple.Goals as goal
 
 at_25 : (low : ℕ) (bs : List ℕ) → low ≡ 25 → simple_head low bs ≡ (number_at w16 bs >>= (λ n. Ok ((no_bytes, Float (Half n.0)), n.1)))

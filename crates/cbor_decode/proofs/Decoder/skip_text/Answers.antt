@@ -10,7 +10,7 @@ use Rattle.cbor_io.specs.declared.read_error.ReadErrorCode.TheVariants.{LengthOu
 use Rattle.cbor_decode.specs.Gives.{FailsBy, Limits, limits, values, ReportsIo, Stops, IsAt}
 use Rattle.cbor_decode.specs.Heads.{passed}
 use Rattle.cbor_decode.specs.Strings.{bad_of, checked_by}
-use Rattle.cbor_decode.proofs.Calls.{kept_stops}
+use Rattle.cbor_decode.proofs.SourceCalls.{kept_stops}
 use Rattle.cbor_decode.proofs.SkippedStrings.{text_skipped, text_cut, text_too_long}
 use Rattle.cbor_decode.proofs.Steps.{took_none, stopped_at, gives_at}
 use Rattle.cbor_decode.proofs.Decoder.skip_text.Goals as goal

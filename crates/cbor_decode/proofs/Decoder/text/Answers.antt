@@ -11,7 +11,7 @@ use Rattle.cbor_io.specs.declared.read_error.ReadErrorCode.{ReadErrorCode}
 use Rattle.cbor_io.specs.declared.read_error.ReadError.{ReadError}
 use Rattle.cbor_io.specs.declared.read_error.ReadErrorCode.TheVariants.{LengthOutOfRange}
 use Rattle.cbor_decode.specs.Gives.{FailsBy, Limits, limits, values, ReportsIo, Stops, IsAt}
-use Rattle.cbor_decode.proofs.Calls.{kept_stops}
+use Rattle.cbor_decode.proofs.SourceCalls.{kept_stops}
 use Rattle.cbor_decode.proofs.Steps.{took_none, stopped_at, gives_at}
 use Rattle.cbor_decode.proofs.Texts.{no_room, has_room, text_stop}
 use Rattle.cbor_decode.proofs.Decoder.text.Goals as goal

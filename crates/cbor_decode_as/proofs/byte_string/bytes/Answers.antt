@@ -7,7 +7,7 @@ use Rattle.cbor_decode.specs.declared.head.Head.{Head}
 use Rattle.cbor_decode_as.specs.TaggedHeads.{TakesItemHead}
 use Rattle.cbor_decode_as.specs.Strings.{IsByteString}
 use Rattle.cbor_decode_as.specs.Takes.{formats_of, raws}
-use Rattle.cbor_decode_as.proofs.texts.Contents.{bytes_stops, other_step, step_over, none_at}
+use Rattle.cbor_decode_as.proofs.texts.StringContents.{bytes_stops, other_step, step_over, none_at}
 use Rattle.cbor_decode_as.proofs.texts.ByteStrings.{byte_string_takes, not_bytes}
 use Rattle.cbor_decode_as.proofs.heads.PassedOver.{behind_stands, behind_stopped, behind_whole, unopened_whole}
 use Rattle.cbor_decode_as.proofs.texts.PassedStrings.{bytes_whole}

@@ -3,7 +3,7 @@ use Rattle.std.specs.Global.{Global}
 use Rattle.cbor_model.specs.Readable.{PassesTags}
 use Rattle.cbor_decode_as.specs.Strings.{IsByteString, SeeksItem}
 use Rattle.cbor_decode_as.specs.Takes.{formats_of}
-use Rattle.cbor_decode_as.proofs.texts.Contents.{step_refuses}
+use Rattle.cbor_decode_as.proofs.texts.StringContents.{step_refuses}
 use Rattle.cbor_decode_as.proofs.byte_string.read_byte_string.Goals as goal
 
 pub returns-in-Ok-None-clause-read : goal.returns-in-Ok-None-clause-read

@@ -4,7 +4,7 @@ use Rattle.std.specs.Global.{Global}
 use Rattle.cbor_model.specs.Readable.{IsText, PassesTags}
 use Rattle.cbor_decode_as.specs.Strings.{SeeksItem}
 use Rattle.cbor_decode_as.specs.Takes.{formats_of}
-use Rattle.cbor_decode_as.proofs.texts.Contents.{step_refuses}
+use Rattle.cbor_decode_as.proofs.texts.StringContents.{step_refuses}
 use Rattle.cbor_decode_as.proofs.string.own_string.Goals as goal
 
 pub returns-in-Ok-None-clause-read : goal.returns-in-Ok-None-clause-read

@@ -8,7 +8,7 @@ use Rattle.cbor_io.specs.Error.{code_of, offset_of}
 use Rattle.cbor_decode_as.specs.Takes.{formats_of}
 use Rattle.cbor_decode_as.proofs.heads.Opened.{text_opened}
 use Rattle.cbor_decode_as.proofs.texts.Lending.{text_refuses}
-use Rattle.cbor_decode_as.proofs.texts.Contents.{text_takes}
+use Rattle.cbor_decode_as.proofs.texts.StringContents.{text_takes}
 use Rattle.cbor_decode.specs.declared.head.Head.TheVariants.{Text}
 use Rattle.cbor_decode_as.specs.declared.head.HeadAt.{HeadAt}
 use Rattle.cbor_decode_as.proofs.heads.Openings.{head_opened}

@@ -11,7 +11,7 @@ use Rattle.cbor_decode.specs.declared.head.Head.{Head}
 use Rattle.cbor_decode_as.specs.TaggedHeads.{TakesItemHead}
 use Rattle.cbor_decode_as.specs.Takes.{formats_of, raws}
 use Rattle.cbor_decode_as.proofs.texts.Lending.{text_refuses}
-use Rattle.cbor_decode_as.proofs.texts.Contents.{text_takes, bytes_takes, bytes_stops, not_string, none_at, other_step, step_over, bad_bytes}
+use Rattle.cbor_decode_as.proofs.texts.StringContents.{text_takes, bytes_takes, bytes_stops, not_string, none_at, other_step, step_over, bad_bytes}
 use Rattle.cbor_decode_as.proofs.heads.PassedOver.{behind_stands, behind_stopped, behind_whole, unopened_whole}
 use Rattle.cbor_decode_as.proofs.texts.PassedStrings.{bytes_stand, bytes_whole, text_whole}
 use Rattle.cbor_decode_as.proofs.numbers.Scalars.{refuses_on, refuses}

@@ -1,7 +1,7 @@
 use Rattle.std.proofs.lemmas.Result.{err_from_is_err_and}
 use Rattle.std.specs.String.{string_bytes}
 use Rattle.cbor_decode.specs.declared.head.Head.TheVariants.{Text}
-use Rattle.cbor_decode_as.proofs.texts.Contents.{text_checked}
+use Rattle.cbor_decode_as.proofs.texts.StringContents.{text_checked}
 use Rattle.cbor_decode_as.proofs.texts.PassedStrings.{checked_reported, text_reports}
 use Rattle.cbor_decode_as.proofs.string.text_slow.Goals as goal
 

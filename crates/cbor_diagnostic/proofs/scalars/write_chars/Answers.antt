@@ -2,12 +2,12 @@ use Rattle.std.proofs.Common.{flat_map, sym, ap, ◌∙◌, map-id}
 use Rattle.std.proofs.lemmas.Iterator.{YieldsList-from_chars}
 use Rattle.std.proofs.lemmas.Iterator.Consumers.{YieldsList-end}
 use Rattle.cbor_diagnostic.specs.Texts.{escaped}
-use Rattle.cbor_diagnostic.proofs.Printing.{both, same_text}
+use Rattle.cbor_diagnostic.proofs.Printing.{wrote_then, same_text}
 use Rattle.cbor_diagnostic.proofs.Characters.{flat_map_push}
 use Rattle.cbor_diagnostic.proofs.scalars.write_chars.Goals as goal
 
 pub loop-c-preserved : goal.loop-c-preserved
-loop-c-preserved g c = same_text (flat_map_push escaped c.loop-c.yielded c.in-Some.c) (both c.loop-c.invariant c.in_ok-write_char.ensures)
+loop-c-preserved g c = same_text (flat_map_push escaped c.loop-c.yielded c.in-Some.c) (wrote_then c.loop-c.invariant c.in_ok-write_char.ensures)
 
 pub returns : goal.returns
 returns g c =

@@ -1,7 +1,7 @@
 use Rattle.std.proofs.Common.{refl}
 use Rattle.std.proofs.lemmas.Result.{on_ok_weaker}
-use Rattle.cbor_diagnostic.proofs.Printing.{one_call, both}
+use Rattle.cbor_diagnostic.proofs.Printing.{one_call, wrote_then}
 use Rattle.cbor_diagnostic.proofs.scalars.write_code.Goals as goal
 
 pub returns : goal.returns
-returns g c = on_ok_weaker c.write_byte.result (λ h. both (one_call g.W.Write.write_str_gives _ _ _ (c.in_ok-write_str.ensures.ok refl)) h) c.write_byte.ensures
+returns g c = on_ok_weaker c.write_byte.result (λ h. wrote_then (one_call g.W.Write.write_str_gives _ _ _ (c.in_ok-write_str.ensures.ok refl)) h) c.write_byte.ensures

@@ -4,8 +4,8 @@ use Rattle.cbor_value.specs.View.{view}
 use Rattle.cbor_forms.specs.Shortened.{reduced}
 use Rattle.cbor_forms.specs.declared.values.Form.TheVariants.{Dcbor}
 use Rattle.cbor_forms.proofs.Forms.{ordered, storable}
-use Rattle.cbor_forms.proofs.Refused.{no_memory, on_ok_always}
-use Rattle.cbor_forms.proofs.Spelled.{written_spells}
+use Rattle.cbor_forms.proofs.NotWritten.{no_memory, on_ok_always}
+use Rattle.cbor_forms.proofs.FormItems.{written_spells}
 use Rattle.cbor_forms.proofs.deterministic.to_vec_dcbor.Goals as goal
 
 pub returns-clause-ordered : goal.returns-clause-ordered

@@ -4,8 +4,8 @@ use Rattle.std.specs.Prelude.{ℕ, T}
 use lib.Ieee.{Float, binary64, fits, of_bits, to_bits}
 use lib.Ieee.Bits.{of_bits-to_bits}
 use Rattle.cbor_forms.specs.Reduced.{integer_of}
-use Rattle.cbor_forms.specs.Whole.{with_sign}
-use Rattle.cbor_forms.proofs.Whole.{whole_is}
+use Rattle.cbor_forms.specs.WholeOfBits.{with_sign}
+use Rattle.cbor_forms.proofs.WholeOfBits.{whole_is}
 use Rattle.cbor_forms.proofs.integers.integer_of.Goals as goal
 
 number : (x y : Float) (bits : ℕ) → T (fits binary64 x) → bits ≡ to_bits binary64 x → x ≡ y

@@ -1,6 +1,6 @@
 use Rattle.std.proofs.Common.{◌-◌, ◌+◌, ◌/◌, ◌%◌, ◌^◌, arith}
 use Rattle.std.proofs.Math.Facts.{Fits-of_lt}
-use Rattle.cbor_forms.proofs.Whole.{left_fits}
+use Rattle.cbor_forms.proofs.WholeOfBits.{left_fits}
 use Rattle.cbor_forms.proofs.integers.whole_of.Goals as goal
 
 pub overflow_mul-result : goal.overflow_mul-result

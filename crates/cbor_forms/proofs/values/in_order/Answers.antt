@@ -1,7 +1,7 @@
 use Rattle.std.proofs.Common.{◌≡◌, ◌∙◌, sym, ap, rules, length, vec_len}
 use Rattle.cbor_model.specs.Plain.{pair_count}
 use Rattle.cbor_value.specs.View.{pair_views}
-use Rattle.cbor_forms.proofs.Keys.{all_stay, are_distinct, count_pair_views}
+use Rattle.cbor_forms.proofs.DistinctKeys.{all_stay, are_distinct, count_pair_views}
 use Rattle.cbor_forms.proofs.Shortening.{refused_for}
 use Rattle.cbor_forms.proofs.values.in_order.Goals as goal
 

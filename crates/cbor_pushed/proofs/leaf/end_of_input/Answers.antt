@@ -1,6 +1,6 @@
 use Rattle.std.proofs.Common.{arith}
-use Rattle.cbor_pushed.proofs.Standing.{stands_there}
-use Rattle.cbor_pushed.proofs.Told.{first_told}
+use Rattle.cbor_pushed.proofs.ScanSteps.{stands_there}
+use Rattle.cbor_pushed.proofs.FoundByDefinitions.{first_told}
 use Rattle.cbor_pushed.proofs.leaf.end_of_input.Goals as goal
 
 pub unreachable-requires : goal.unreachable-requires

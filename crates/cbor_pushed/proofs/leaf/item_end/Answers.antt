@@ -6,7 +6,7 @@ use Rattle.cbor_decode.specs.Decoder.{formats_of}
 use Rattle.cbor_decode.specs.Gives.{Advances, Step, Stopped, values}
 use Rattle.cbor_decode.specs.Heads.{passed}
 use Rattle.cbor_pushed.specs.Scanned.{EndsAt}
-use Rattle.cbor_pushed.proofs.Ended.{item_passed, item_refused}
+use Rattle.cbor_pushed.proofs.ItemsAtPlaces.{item_passed, item_refused}
 use Rattle.cbor_pushed.proofs.leaf.item_end.Goals as goal
 
 pub returns-in-Ok : goal.returns-in-Ok

@@ -1,6 +1,6 @@
 use Rattle.std.proofs.Common.{◌∷◌, ◌-◌, ◌+◌, length, sym, subst, arith}
 use Rattle.cbor_model.specs.Raw.{AreBytes}
-use Rattle.cbor_pushed.specs.Scanned.{Opens}
+use Rattle.cbor_pushed.specs.Scanned.{HasHead}
 use Rattle.cbor_pushed.specs.declared.rest.Rest.{Rest}
 use Rattle.cbor_pushed.proofs.Opened.{counted_array, counted_map, counted_tag}
 use Rattle.cbor_pushed.proofs.openings.counted.Goals as goal
@@ -13,7 +13,7 @@ returns c =
     let n = c.in_ok-n.n in
     let left = c.in_ok-n.left in
     let fits : AreBytes bs = λ i. omega (arith, c.type_inv.behind i) in
-    let P = λ (rest : Rest). Opens (b ∷ bs) rest (length bs - left + 1) in
+    let P = λ (rest : Rest). HasHead (b ∷ bs) rest (length bs - left + 1) in
     elim c.match-first-div32.branch [
       | in-4 w ↦ subst P (sym w.rest-is) (counted_array b bs n left fits (c.in_ok-n.ensures) w.in-4.is)
       | in-5 w ↦ subst P (sym w.rest-is) (counted_map b bs n left fits (c.in_ok-n.ensures) w.in-5.is)

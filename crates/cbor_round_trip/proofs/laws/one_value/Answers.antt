@@ -1,4 +1,4 @@
-use Rattle.cbor_round_trip.proofs.Written.{one_value}
+use Rattle.cbor_round_trip.proofs.WrittenReadBack.{one_value}
 use Rattle.cbor_round_trip.proofs.laws.one_value.Goals as goal
 
 pub returns : goal.returns

@@ -3,7 +3,7 @@ use Rattle.cbor_model.specs.Allowed.{limits_of}
 use Rattle.cbor_io.specs.Error.{IsOutOfMemory}
 use Rattle.cbor_decode.specs.FirstRefusal.{ReportsFirst}
 use Rattle.cbor_decode_as.specs.Takes.{WhereTotal}
-use Rattle.cbor_round_trip.proofs.Calls.{first_by_memory, only_memory, same_again, spelled_again, reported_unstorable}
+use Rattle.cbor_round_trip.proofs.WriteThenRead.{first_by_memory, only_memory, same_again, spelled_again, reported_unstorable}
 use Rattle.cbor_round_trip.proofs.laws.write_and_read.Goals as goal
 
 pub returns-in_err-bytes-clause-answered : goal.returns-in_err-bytes-clause-answered

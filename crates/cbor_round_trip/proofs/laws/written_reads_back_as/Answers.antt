@@ -1,4 +1,4 @@
-use Rattle.cbor_round_trip.proofs.Written.{written}
+use Rattle.cbor_round_trip.proofs.WrittenReadBack.{written}
 use Rattle.cbor_round_trip.proofs.laws.written_reads_back_as.Goals as goal
 
 pub returns : goal.returns

@@ -1,6 +1,6 @@
 use Rattle.std.proofs.Common.{arith}
 use Rattle.cbor_de.specs.Whole.{from_slice_asks}
-use Rattle.cbor_rules.proofs.Fronts.{item_asked, item_ends, item_refused, refused_every, refused_first, refused_unread}
+use Rattle.cbor_rules.proofs.SliceFronts.{item_asked, item_ends, item_refused, refused_every, refused_first, refused_unread}
 use Rattle.cbor_rules.proofs.front.front.Goals as goal
 
 pub returns-in-Ok-clause-found : goal.returns-in-Ok-clause-found

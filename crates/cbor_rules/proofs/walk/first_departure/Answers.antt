@@ -3,7 +3,7 @@ use Rattle.cbor_rules.specs.Rules.{first_departure, under}
 use Rattle.cbor_rules.specs.declared.walk.Walk.TheVariants.{Departed}
 use Rattle.cbor_rules.proofs.MetKeys.{key_of_item}
 use Rattle.cbor_rules.proofs.Shown.{shows}
-use Rattle.cbor_rules.proofs.Told.{answered, reported, untold}
+use Rattle.cbor_rules.proofs.WalkReports.{answered, reported, untold}
 use Rattle.cbor_rules.proofs.Walking.{had_memory}
 use Rattle.cbor_rules.proofs.walk.first_departure.Goals as goal
 

@@ -1,5 +1,5 @@
 use Rattle.std.proofs.Common.{◌≡◌, ◌+◌, take}
-use Rattle.cbor_serde_de.specs.Keys.{count_read}
+use Rattle.cbor_serde_de.specs.PickedNames.{count_read}
 use Rattle.cbor_serde_de.proofs.places.place_of_number.Given as goal
 
 abbrev pub invariant-loop-at : goal.invariant-loop-at

@@ -1,6 +1,6 @@
 use Rattle.std.proofs.Common.{arith}
 use Rattle.std.proofs.KnownBytes.{Appends-kept}
-use Rattle.cbor_writer.proofs.Sent.{front_grown}
+use Rattle.cbor_writer.proofs.SentBlocks.{front_grown}
 use Rattle.cbor_writer.proofs.send.send.Goals as goal
 use Rattle.cbor_writer.proofs.send.send.Goals.{in-Ok, in-Err+else-ne}
 

@@ -1,7 +1,7 @@
 use Rattle.std.proofs.Common.{◌≡◌, ◌+◌, ◌-◌, take, drop, ap, ◌∙◌, sym, arith}
 use Rattle.cbor_buffered.specs.Block.{in_block}
 use Rattle.cbor_buffered.proofs.BlockBytes.{front_same}
-use Rattle.cbor_buffered.proofs.Steps.{joined}
+use Rattle.cbor_buffered.proofs.TakenInTurn.{joined}
 use Rattle.cbor_buffered.proofs.buffered_read.BufferedRead.join_piece.Goals as goal
 
 pub returns-clause-ok : goal.returns-clause-ok

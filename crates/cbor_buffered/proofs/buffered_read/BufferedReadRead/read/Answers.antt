@@ -1,7 +1,7 @@
 use Rattle.std.proofs.Common.{◌≡◌, ◌+◌, ◌-◌, ◌≤◌, take, drop, refl, sym, ap, ◌∙◌, arith}
 use Rattle.cbor_buffered.specs.Block.{in_block, input_of_buffered}
 use Rattle.cbor_buffered.proofs.BlockBytes.{advanced, front_same, taken_length, took_front}
-use Rattle.cbor_buffered.proofs.Steps.{took_it}
+use Rattle.cbor_buffered.proofs.TakenInTurn.{took_it}
 use Rattle.cbor_buffered.proofs.buffered_read.BufferedReadRead.read.Goals as goal
 
 pub returns-then-n-self : goal.returns-then-n-self

@@ -4,7 +4,7 @@ use borrow.Rule.Slice.PartMut.{put_mid}
 use Rattle.cbor_read.specs.Source.{TookKept}
 use Rattle.cbor_buffered.specs.Block.{in_block}
 use Rattle.cbor_buffered.proofs.BlockBytes.{taken_length}
-use Rattle.cbor_buffered.proofs.Steps.{kept_more}
+use Rattle.cbor_buffered.proofs.TakenInTurn.{kept_more}
 use Rattle.cbor_buffered.proofs.buffered_read.BufferedReadSource.read_into.Goals as goal
 
 pub pieces-preserved : goal.pieces-preserved

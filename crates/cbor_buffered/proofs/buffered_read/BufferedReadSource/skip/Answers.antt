@@ -1,7 +1,7 @@
 use Rattle.std.proofs.Common.{◌-◌, take, arith}
 use Rattle.cbor_buffered.specs.Block.{in_block}
 use Rattle.cbor_buffered.proofs.BlockBytes.{taken_length}
-use Rattle.cbor_buffered.proofs.Steps.{skipped_more}
+use Rattle.cbor_buffered.proofs.TakenInTurn.{skipped_more}
 use Rattle.cbor_buffered.proofs.buffered_read.BufferedReadSource.skip.Goals as goal
 
 pub pieces-preserved : goal.pieces-preserved

@@ -2,7 +2,7 @@ use Rattle.std.proofs.Common.{sym, ap, ◌∙◌}
 use Rattle.cbor_model.specs.Plain.{array}
 use Rattle.cbor_model.specs.Document.{declared}
 use Rattle.cbor_value.proofs.facts.Views.{view_array}
-use Rattle.cbor_convert.proofs.Made.{is_made}
+use Rattle.cbor_convert.proofs.MemoryAnswers.{is_made}
 use Rattle.cbor_convert.proofs.Meanings.{value_sequence}
 use Rattle.cbor_convert.proofs.list.SerializeVec.end.Goals as goal
 

@@ -1,4 +1,4 @@
-use Rattle.cbor_convert.proofs.Held.{item_held, items_stored}
+use Rattle.cbor_convert.proofs.BuilderParts.{item_held, items_stored}
 use Rattle.cbor_convert.proofs.list.SerializeVec.serialize_element.Goals as goal
 
 pub returns-clause-held : goal.returns-clause-held

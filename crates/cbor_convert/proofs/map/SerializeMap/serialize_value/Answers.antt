@@ -1,7 +1,7 @@
 use Rattle.std.proofs.Common.{◌≡◌, sym, ◌∙◌, Some, rules}
 use Rattle.cbor_value.specs.View.{view}
 use Rattle.cbor_convert.specs.Meaning.{value_of}
-use Rattle.cbor_convert.proofs.Held.{pair_held, pairs_stored, key_is}
+use Rattle.cbor_convert.proofs.BuilderParts.{pair_held, pairs_stored, key_is}
 use Rattle.cbor_convert.proofs.map.SerializeMap.serialize_value.Goals as goal
 
 pub returns-clause-held : goal.returns-clause-held

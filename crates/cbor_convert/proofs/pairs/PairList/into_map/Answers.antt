@@ -3,8 +3,8 @@ use Rattle.cbor_model.specs.Plain.{map, Pairs, no_pairs}
 use Rattle.cbor_model.specs.FiniteMap.{put_all}
 use Rattle.cbor_model.specs.Document.{declared}
 use Rattle.cbor_value.proofs.facts.Views.{view_map}
-use Rattle.cbor_convert.proofs.Made.{is_made}
-use Rattle.cbor_convert.proofs.Held.{named_stored}
+use Rattle.cbor_convert.proofs.MemoryAnswers.{is_made}
+use Rattle.cbor_convert.proofs.BuilderParts.{named_stored}
 use Rattle.cbor_convert.proofs.Meanings.{value_mapping, value_structure}
 use Rattle.cbor_convert.proofs.pairs.PairList.into_map.Goals as goal
 

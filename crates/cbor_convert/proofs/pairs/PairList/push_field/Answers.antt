@@ -5,7 +5,7 @@ use Rattle.cbor_value.specs.View.{view}
 use Rattle.cbor_value.specs.declared.Value.{Text}
 use Rattle.cbor_value.proofs.facts.Views.{view_text}
 use Rattle.cbor_convert.specs.Meaning.{value_of}
-use Rattle.cbor_convert.proofs.Held.{pair_held, pairs_stored}
+use Rattle.cbor_convert.proofs.BuilderParts.{pair_held, pairs_stored}
 use Rattle.cbor_convert.proofs.Meanings.{value_text}
 use Rattle.cbor_convert.proofs.pairs.PairList.push_field.Goals as goal
 

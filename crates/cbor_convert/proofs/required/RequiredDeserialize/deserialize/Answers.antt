@@ -11,3 +11,7 @@ returns-in-Err-clause-read g c =
         | inr none ↦ inr (λ x rest is. none (record { tag = Some g.row.N; value = x.0 }) rest (record { item = is.item; is = is.is; means = is.means }))
       ];
     }
+
+pub returns-in-Err-clause-memory : goal.returns-in-Err-clause-memory
+returns-in-Err-clause-memory g c = λ out bs reports x rest is.
+    c.in-Err.ensures.memory out bs reports (record { tag = Some g.row.N; value = x.0 }) rest (record { item = is.item; is = is.is; means = is.means })

@@ -2,13 +2,13 @@ use Rattle.std.proofs.Common.{false, ◌≡◌, ℕ, Some, None, refl, sym, ap, 
 use Rattle.cbor_model.specs.Raw.{Raw}
 use Rattle.cbor_model.specs.Reader.{item_at}
 use Rattle.cbor_convert.specs.Tagged.{IsTagged, StandsNoTag}
-use Rattle.cbor_read.specs.Source.{Input}
+use Rattle.cbor_read.specs.Source.{Input, asks_for}
 use Rattle.cbor_io.specs.Error.{code_of, offset_of}
 use Rattle.cbor_decode.specs.Gives.{Step}
 use Rattle.cbor_decode.specs.declared.formats.Formats.{Formats}
-use Rattle.cbor_decode_as.specs.Takes.{raws, context, formats_of, IsRead, IsNotRead, Refuses, ReportsItem}
+use Rattle.cbor_decode_as.specs.Takes.{raws, context, formats_of, IsRead, MemoryFor, IsNotRead, Refuses, ReportsItem}
 use Rattle.cbor_convert.specs.declared.tagged.Tagged.{Tagged}
-use Rattle.cbor_convert.proofs.Tags.{tag_read, tag_unread, untagged_taken, untagged_refused, head_refused, tag_reported, untagged_reported, head_reported}
+use Rattle.cbor_convert.proofs.Tags.{tag_read, tag_asks, tag_unread, untagged_asks, untagged_taken, untagged_refused, head_refused, tag_reported, untagged_reported, head_reported}
 use Rattle.cbor_decode.proofs.facts.Steps.{took_same}
 use Rattle.cbor_decode_as.proofs.facts.Refusals.{item_total, refuses_on}
 use Rattle.cbor_de.proofs.facts.Forms.{later_in}
@@ -140,3 +140,35 @@ returns-in-Err-deserialize-clause-form g c =
     let mid = c.outermost.new.de in
     let none : StandsNoTag (g.R.Source.source old.decoder.source) (g.R.Source.source mid.decoder.source) = rw c.in-Ok-None.field-0-is at c.in-Ok-None.ensures.none in
     later_in g.T.Readable.wrong_forms old.decoder.formats mid.decoder.formats _ _ c.in-Err-deserialize.e c.in-Ok-None.ensures.formats none.took c.in-Err-deserialize.ensures.form
+
+-- ---- memory
+
+pub returns-in-Err-value-clause-memory : goal.returns-in-Err-value-clause-memory
+returns-in-Err-value-clause-memory g c =
+    let old = c.args.de.now in
+    let mid = c.outermost.new.de in
+    let s = g.R.Source.source old.decoder.source in
+    let m = g.R.Source.source mid.decoder.source in
+    let reads = g.T.Readable.reads (context old.decoder.formats g.R.Source.lends) in
+    let asks = g.T.Readable.asks_memory (asks_for g.R.Source.refusals g.R.Source.lends) in
+    let e = c.in-Err-value.e in
+    let one = rw c.in-Ok-Some.field-0-is at c.in-Ok-Some.ensures.levels in
+    let tag = rw c.in-Ok-Some.field-0-is at c.in-Ok-Some.ensures.item in
+    tag_asks (formats_of old.decoder.formats) old.decoder.levels mid.decoder.levels c.in-Ok-Some.tag one reads (λ (w : Tagged g.row.T.Denot). w.tag) (λ (w : Tagged g.row.T.Denot). w.value) asks s m e tag
+    (subst (λ (k : Formats). MemoryFor asks (formats_of k) (g.T.Readable.reads (context k g.R.Source.lends)) mid.decoder.levels m e) c.in-Ok-Some.ensures.formats c.in-Err-value.ensures.memory)
+
+pub returns-in-Err-deserialize-clause-memory : goal.returns-in-Err-deserialize-clause-memory
+returns-in-Err-deserialize-clause-memory g c =
+    let old = c.args.de.now in
+    let mid = c.outermost.new.de in
+    let s = g.R.Source.source old.decoder.source in
+    let m = g.R.Source.source mid.decoder.source in
+    let f = formats_of old.decoder.formats in
+    let reads = g.T.Readable.reads (context old.decoder.formats g.R.Source.lends) in
+    let asks = g.T.Readable.asks_memory (asks_for g.R.Source.refusals g.R.Source.lends) in
+    let e = c.in-Err-deserialize.e in
+    let levels : mid.decoder.levels ≡ old.decoder.levels = rw c.in-Ok-None.field-0-is at c.in-Ok-None.ensures.levels in
+    let none : StandsNoTag s m = rw c.in-Ok-None.field-0-is at c.in-Ok-None.ensures.none in
+    let there = subst (λ (k : Formats). MemoryFor asks (formats_of k) (g.T.Readable.reads (context k g.R.Source.lends)) mid.decoder.levels m e) c.in-Ok-None.ensures.formats c.in-Err-deserialize.ensures.memory in
+    untagged_asks reads (λ (w : Tagged g.row.T.Denot). w.tag) (λ (w : Tagged g.row.T.Denot). w.value) f old.decoder.levels asks s m e none
+    (subst (λ (n : ℕ). MemoryFor asks f reads n m e) levels there)

@@ -1,7 +1,7 @@
 use Rattle.std.proofs.Common.{List, ℕ, subst}
 use Rattle.cbor_model.specs.Document.{struct_variant}
 use Rattle.cbor_convert.specs.Meaning.{Makes}
-use Rattle.cbor_convert.proofs.Named.{named_struct}
+use Rattle.cbor_convert.proofs.VariantContents.{named_struct}
 use Rattle.cbor_convert.proofs.variants.SerializeStructVariant.end.Goals as goal
 
 pub returns : goal.returns

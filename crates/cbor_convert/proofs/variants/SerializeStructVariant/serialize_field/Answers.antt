@@ -1,4 +1,4 @@
-use Rattle.cbor_convert.proofs.Held.{fields_held}
+use Rattle.cbor_convert.proofs.BuilderParts.{fields_held}
 use Rattle.cbor_convert.proofs.variants.SerializeStructVariant.serialize_field.Goals as goal
 
 pub returns-clause-held : goal.returns-clause-held

@@ -1,4 +1,4 @@
-use Rattle.cbor_convert.proofs.Held.{parts_held}
+use Rattle.cbor_convert.proofs.BuilderParts.{parts_held}
 use Rattle.cbor_convert.proofs.variants.SerializeTupleVariant.serialize_field.Goals as goal
 
 pub returns-clause-held : goal.returns-clause-held

@@ -1,9 +1,10 @@
 use Rattle.cbor_io.specs.Error.{code_of, offset_of}
+use Rattle.cbor_read.specs.Source.{asks_for}
 use Rattle.cbor_decode.specs.Heads.{remaining_of}
 use Rattle.cbor_decode.specs.declared.formats.Formats.{Formats}
 use Rattle.cbor_decode_as.specs.Takes.{context, formats_of}
 use Rattle.cbor_decode_as.proofs.facts.Places.{bad_key_later, kept_alone}
-use Rattle.cbor_decode_as.proofs.facts.Maps.{none_is_key, there, key_refused, key_next}
+use Rattle.cbor_decode_as.proofs.facts.Maps.{none_is_key, there, key_asks, key_refused, key_next}
 use Rattle.std.proofs.Common.{inl}
 use Rattle.cbor_de.proofs.refusals.Forms.{key_of, key_reported, later_in}
 use Rattle.cbor_de.proofs.map.MapAccess.next_key.Goals as goal
@@ -40,6 +41,18 @@ returns-in-Ok-clause-read g c =
     let more = c.in-Ok-true.field-0 in
     key_next s m old.remaining new more reads old.de.now.decoder.formats now.formats old.de.now.decoder.levels now.levels c.more_pairs.ensures.settings.formats c.more_pairs.ensures.settings.levels t c.in-Ok.key
     (there s m old.remaining new more old.de.now.decoder.formats c.in-Ok-true.field-0-test c.in-Ok-true.ensures.read) c.in-Ok.ensures.read
+
+pub returns-in-Err-deserialize-clause-memory : goal.returns-in-Err-deserialize-clause-memory
+returns-in-Err-deserialize-clause-memory g c =
+    let old = c.args.self.now in
+    let now = c.more_pairs.new.decoder in
+    let s = g.R.Source.source old.de.now.decoder.source in
+    let m = g.R.Source.source now.source in
+    let reads = λ (f : Formats). g.K.Readable.reads (context f g.R.Source.lends) in
+    let new = c.more_pairs.new.remaining in
+    let more = c.in-Ok-true.field-0 in
+    key_asks s m old.remaining new more reads old.de.now.decoder.formats now.formats old.de.now.decoder.levels now.levels c.more_pairs.ensures.settings.formats c.more_pairs.ensures.settings.levels
+    (g.K.Readable.asks_memory (asks_for g.R.Source.refusals g.R.Source.lends)) c.in-Err-deserialize.e (there s m old.remaining new more old.de.now.decoder.formats c.in-Ok-true.field-0-test c.in-Ok-true.ensures.read) c.in-Err-deserialize.ensures.memory
 
 -- ---- a key that may not begin as it does
 

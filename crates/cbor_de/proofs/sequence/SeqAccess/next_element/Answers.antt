@@ -1,7 +1,8 @@
 use Rattle.cbor_io.specs.Error.{code_of, offset_of}
+use Rattle.cbor_read.specs.Source.{asks_for}
 use Rattle.cbor_decode.specs.declared.formats.Formats.{Formats}
 use Rattle.cbor_decode_as.specs.Takes.{context}
-use Rattle.cbor_decode_as.proofs.facts.Arrays.{comes, item_refused, item_next}
+use Rattle.cbor_decode_as.proofs.facts.Arrays.{comes, item_asks, item_refused, item_next}
 use Rattle.cbor_de.proofs.refusals.Forms.{later_in}
 use Rattle.cbor_de.proofs.sequence.SeqAccess.next_element.Goals as goal
 
@@ -34,3 +35,15 @@ returns-in-Ok-clause-read g c =
 pub returns-in-Err-deserialize-clause-form : goal.returns-in-Err-deserialize-clause-form
 returns-in-Err-deserialize-clause-form g c =
     later_in g.T.Readable.wrong_forms c.args.self.now.de.now.decoder.formats c.more_items.new.decoder.formats _ _ c.in-Err-deserialize.e c.more_items.ensures.settings.formats c.in-Ok-true.ensures.read.took c.in-Err-deserialize.ensures.form
+
+pub returns-in-Err-deserialize-clause-memory : goal.returns-in-Err-deserialize-clause-memory
+returns-in-Err-deserialize-clause-memory g c =
+    let old = c.args.self.now in
+    let now = c.more_items.new.decoder in
+    let s = g.R.Source.source old.de.now.decoder.source in
+    let m = g.R.Source.source now.source in
+    let reads = λ (f : Formats). g.T.Readable.reads (context f g.R.Source.lends) in
+    let new = c.more_items.new.remaining in
+    let more = c.in-Ok-true.field-0 in
+    item_asks s m old.remaining new more reads old.de.now.decoder.formats now.formats old.de.now.decoder.levels now.levels c.more_items.ensures.settings.formats c.more_items.ensures.settings.levels
+    (g.T.Readable.asks_memory (asks_for g.R.Source.refusals g.R.Source.lends)) c.in-Err-deserialize.e (comes s m old.remaining new more c.in-Ok-true.field-0-test c.in-Ok-true.ensures.read) c.in-Err-deserialize.ensures.memory

@@ -1,4 +1,4 @@
-use Rattle.std.proofs.Common.{refl, ap}
+use Rattle.std.proofs.Common.{◌≡◌, ℕ, List, [], ◌∷◌, Option, IfSome, take, refl, ap, subst}
 use Rattle.cbor_decode_as.specs.Takes.{context, formats_of}
 use Rattle.cbor_decode_as.proofs.facts.Refusals.{item_total}
 use Rattle.cbor_de.proofs.inputs.StreamSteps.{none_before, fault_before, front_is}
@@ -20,6 +20,9 @@ returns-in-Err-deserialize-clause-steps g c =
       going = c.if-self.false;
       refused = none_before g.R.Source.refusals f (g.T.Readable.reads (context d.formats g.R.Source.lends)) d.levels s m t e b stays front h.read;
       fault = fault_before g.R.Source.refusals g.T.Readable.total f d.levels s m e stays (item_total g.T.Readable.passes_over g.T.Readable.total g.R.Source.refusals f d.levels m e h.fault);
+      at_end = λ none out.
+          let empty = subst (λ (x : Option (List ℕ)). IfSome x (λ bs. take 1 bs ≡ b ∷ [])) none.is front in
+          cc;
       done = refl;
       levels = h.settings.levels;
       formats = ap formats_of h.settings.formats;

@@ -23,7 +23,7 @@ use denote.Triple.Entry.{alive}
 use denote.Triple.Spec.{Meets, triple_of}
 use denote.Triple.Table.{entered}
 use denote.Triple.Walked.{says, Stays, walk_of, ends_at, walk_Meets}
-use Rattle.cbor_length.proofs.Walks.{none, none_made}
+use Rattle.cbor_length.proofs.Fieldless.{none, none_made}
 use Rattle.cbor_length.specs.contracts.trace.Trace as Trace
 use Rattle.cbor_length.specs.contracts.trace.Trace.new as F
 use Rattle.cbor_length.specs.contracts.trace.Trace.new.Key.{name as #self}

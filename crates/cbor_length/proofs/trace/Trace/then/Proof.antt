@@ -25,7 +25,7 @@ use denote.Triple.Entry.{alive}
 use denote.Triple.Spec.{Meets, triple_of}
 use denote.Triple.Table.{entered}
 use denote.Triple.Walked.{says, Stays, stay_dropped, walk_of, ends_at, walk_Meets, Goes-dropped}
-use Rattle.cbor_length.proofs.Walks.{none, none_made}
+use Rattle.cbor_length.proofs.Fieldless.{none, none_made}
 use Rattle.cbor_length.specs.contracts.trace.Trace as Trace
 use Rattle.cbor_length.specs.contracts.trace.Piece as Piece
 use Rattle.cbor_length.specs.contracts.trace.Trace.then as F

@@ -1,7 +1,7 @@
 use Rattle.std.proofs.Common.{◌≡◌, ◌/◌, ℕ, max, List, drop, sym, subst, arith}
 use Rattle.cbor_pushed.specs.Scanned.{ChunksEnd, InChunks}
 use Rattle.cbor_pushed.proofs.Chunked.{in_chunks}
-use Rattle.cbor_pushed.proofs.Found.{cut_chunks}
+use Rattle.cbor_pushed.proofs.ScannedBytes.{cut_chunks}
 use Rattle.cbor_pushed.proofs.Lasts.{all_taken}
 use Rattle.cbor_pushed.proofs.scan.Scan.chunked.Goals as goal
 

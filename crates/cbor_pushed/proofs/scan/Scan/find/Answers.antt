@@ -1,5 +1,5 @@
 use Rattle.std.proofs.Common.{arith}
-use Rattle.cbor_pushed.proofs.Told.{refused, unfinished, whole}
+use Rattle.cbor_pushed.proofs.FoundByDefinitions.{refused, unfinished, whole}
 use Rattle.cbor_pushed.proofs.scan.Scan.find.Goals as goal
 
 pub returns-in-Ok-Whole-clause-found : goal.returns-in-Ok-Whole-clause-found

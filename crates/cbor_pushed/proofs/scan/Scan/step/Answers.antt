@@ -1,8 +1,8 @@
 use Rattle.std.proofs.Common.{◌≡◌, ◌≤◌, ◌+◌, ◌∷◌, length, drop, sym, arith}
 use Rattle.std.proofs.lemmas.Grind.{common_steps}
-use Rattle.cbor_pushed.proofs.Found.{cut_here}
+use Rattle.cbor_pushed.proofs.ScannedBytes.{cut_here}
 use Rattle.cbor_pushed.proofs.GoesOn.{over}
-use Rattle.cbor_pushed.proofs.Standing.{broken_place, left_stands, left_steps}
+use Rattle.cbor_pushed.proofs.ScanSteps.{broken_place, left_stands, left_steps}
 use Rattle.cbor_pushed.proofs.scan.Scan.step.Goals as goal
 
 pub returns-then-is_over-clause-stands : goal.returns-then-is_over-clause-stands

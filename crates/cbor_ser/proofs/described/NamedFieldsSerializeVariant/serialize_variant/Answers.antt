@@ -1,5 +1,5 @@
 use Rattle.cbor_ser.proofs.WriteSteps.{answered, by_parts, and_then, stops, same}
-use Rattle.cbor_ser.proofs.Named.{variant_head_of}
+use Rattle.cbor_ser.proofs.FieldsByName.{variant_head_of}
 use Rattle.cbor_ser.proofs.described.NamedFieldsSerializeVariant.serialize_variant.Goals as goal
 
 pub returns-in_err-write_struct_head : goal.returns-in_err-write_struct_head

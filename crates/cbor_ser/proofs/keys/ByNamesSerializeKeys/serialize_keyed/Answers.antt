@@ -1,7 +1,7 @@
 use Rattle.std.proofs.Common.{List, ℕ, ap}
 use Rattle.std.proofs.lemmas.Option.{IfSome_then}
 use Rattle.cbor_model.specs.Parts.{field_part}
-use Rattle.cbor_ser.proofs.Named.{named_at}
+use Rattle.cbor_ser.proofs.FieldsByName.{named_at}
 use Rattle.cbor_ser.proofs.WriteSteps.{same_step}
 use Rattle.cbor_ser.proofs.keys.ByNamesSerializeKeys.serialize_keyed.Goals as goal
 

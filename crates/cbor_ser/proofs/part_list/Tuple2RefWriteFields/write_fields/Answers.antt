@@ -5,7 +5,7 @@ use Rattle.cbor_ser.specs.Labels.{keyed_fields}
 use Rattle.cbor_ser.specs.PartLists.{name_in}
 use Rattle.cbor_ser.proofs.Keyed.{field_then}
 use Rattle.cbor_ser.proofs.WriteSteps.{step_then, step_stops, same_step, same_part_step}
-use Rattle.cbor_ser.proofs.Named.{written_then, left_out, has_document, no_document}
+use Rattle.cbor_ser.proofs.FieldsByName.{written_then, left_out, has_document, no_document}
 use Rattle.cbor_ser.proofs.part_list.Tuple2RefWriteFields.write_fields.Goals as goal
 
 pub returns-then-not-is_written : goal.returns-then-not-is_written

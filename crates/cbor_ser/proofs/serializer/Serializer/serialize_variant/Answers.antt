@@ -1,7 +1,7 @@
 use Rattle.std.proofs.Common.{ℕ, List, length, ◌<◌, ap, arith}
 use Rattle.cbor_model.specs.Parts.{item}
 use Rattle.cbor_ser.proofs.WriteSteps.{same}
-use Rattle.cbor_ser.proofs.Named.{named_at}
+use Rattle.cbor_ser.proofs.FieldsByName.{named_at}
 use Rattle.cbor_ser.proofs.serializer.Serializer.serialize_variant.Goals as goal
 
 pub returns : goal.returns

@@ -1,6 +1,6 @@
 use Rattle.std.proofs.Common.{◌≡◌, ◌∙◌, ap, Some, length, rules}
 use Rattle.cbor_model.specs.Document.{docs}
-use Rattle.cbor_model.specs.Parts.{array_head, both, ending, items}
+use Rattle.cbor_model.specs.Parts.{array_head, in_turn, ending, items}
 use Rattle.cbor_ser.proofs.Lists.{count_docs}
 use Rattle.cbor_ser.proofs.WriteSteps.{step_by_parts, step_then, step_stops, same_step}
 use Rattle.cbor_ser.proofs.serializer.Serializer.set_step.Goals as goal
@@ -10,11 +10,11 @@ returns-in_err-array_step g c =
     let keys = c.args.set.now.keys in
     let len : c.len.result ≡ length keys = search rules in
     let rest = items (docs g.T.Serialize.document keys) (ending (Some 0)) in
-    step_by_parts (same_step (ap (λ n. both (array_head (Some n)) rest) (len ∙ count_docs g.T.Serialize.document keys)) (step_stops rest c.from_residual.ensures.0 c.in_err-array_step.ensures.err))
+    step_by_parts (same_step (ap (λ n. in_turn (array_head (Some n)) rest) (len ∙ count_docs g.T.Serialize.document keys)) (step_stops rest c.from_residual.ensures.0 c.in_err-array_step.ensures.err))
 
 pub returns : goal.returns
 returns g c =
     let keys = c.args.set.now.keys in
     let len : c.len.result ≡ length keys = search rules in
     let rest = items (docs g.T.Serialize.document keys) (ending (Some 0)) in
-    step_by_parts (same_step (ap (λ n. both (array_head (Some n)) rest) (len ∙ count_docs g.T.Serialize.document keys)) (step_then c.in_ok-array_step.ensures.ok c.members_step.ensures))
+    step_by_parts (same_step (ap (λ n. in_turn (array_head (Some n)) rest) (len ∙ count_docs g.T.Serialize.document keys)) (step_then c.in_ok-array_step.ensures.ok c.members_step.ensures))

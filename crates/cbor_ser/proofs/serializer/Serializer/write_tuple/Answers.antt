@@ -1,14 +1,14 @@
 use Rattle.std.proofs.Common.{ℕ, ap, Some}
-use Rattle.cbor_model.specs.Parts.{both, array_head, items, ending}
+use Rattle.cbor_model.specs.Parts.{in_turn, array_head, items, ending}
 use Rattle.cbor_ser.proofs.WriteSteps.{by_parts, and_then, stops, same}
 use Rattle.cbor_ser.proofs.serializer.Serializer.write_tuple.Goals as goal
 
 pub returns-in_err-write_array_head : goal.returns-in_err-write_array_head
 returns-in_err-write_array_head g c =
     let ds = g.F.SerializeTuple.documents c.args.parts.now in
-    by_parts (same (ap (λ (n : ℕ). both (array_head (Some n)) (items ds (ending (Some 0)))) c.len.ensures.documents) (stops c.from_residual.ensures.1 c.in_err-write_array_head.ensures.err))
+    by_parts (same (ap (λ (n : ℕ). in_turn (array_head (Some n)) (items ds (ending (Some 0)))) c.len.ensures.documents) (stops c.from_residual.ensures.1 c.in_err-write_array_head.ensures.err))
 
 pub returns : goal.returns
 returns g c =
     let ds = g.F.SerializeTuple.documents c.args.parts.now in
-    by_parts (same (ap (λ (n : ℕ). both (array_head (Some n)) (items ds (ending (Some 0)))) c.len.ensures.documents) (and_then c.in_ok-write_array_head.ensures.ok c.serialize_items.ensures))
+    by_parts (same (ap (λ (n : ℕ). in_turn (array_head (Some n)) (items ds (ending (Some 0)))) c.len.ensures.documents) (and_then c.in_ok-write_array_head.ensures.ok c.serialize_items.ensures))

@@ -3,7 +3,7 @@ use Rattle.cbor_read.specs.Source.{Lends, part_bytes, slice_refusals}
 use Rattle.cbor_read.specs.Sources.{input_of_slice}
 use Rattle.cbor_decode_as.specs.Strings.{LendsString}
 use Rattle.cbor_decode_as.specs.Takes.{context}
-use Rattle.cbor_serde_de.specs.Keys.{PicksItem}
+use Rattle.cbor_serde_de.specs.PickedNames.{PicksItem}
 use Rattle.cbor_serde_de.specs.Places.{input_of}
 use Rattle.cbor_serde_de.proofs.Decoded.{string_lent}
 use Rattle.cbor_serde_de.proofs.cbor.Cbor.bytes_name.Goals as goal

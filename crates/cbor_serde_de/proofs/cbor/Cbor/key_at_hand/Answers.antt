@@ -1,12 +1,12 @@
 use Rattle.std.proofs.Common.{drop, sym, subst}
 use Rattle.cbor_model.specs.Readable.{IsText}
 use Rattle.cbor_model.specs.Refusal.{end_in_map}
-use Rattle.cbor_serde_de.specs.Keys.{PicksItem, PicksText}
+use Rattle.cbor_serde_de.specs.PickedNames.{PicksItem, PicksText}
 use Rattle.cbor_serde_de.specs.declared.cbor.Cbor.{Cbor}
 use Rattle.cbor_serde_de.proofs.Decoded.{reads_also}
-use Rattle.cbor_serde_de.proofs.Named.{text_picks}
+use Rattle.cbor_serde_de.proofs.PickedTexts.{text_picks}
 use Rattle.cbor_serde_de.proofs.ShortTexts.{still_at_hand, text_read}
-use Rattle.cbor_serde_de.proofs.Steps.{counted_down}
+use Rattle.cbor_serde_de.proofs.CountedDown.{counted_down}
 use Rattle.cbor_serde_de.proofs.cbor.Cbor.key_at_hand.Goals as goal
 
 pub returns : goal.returns

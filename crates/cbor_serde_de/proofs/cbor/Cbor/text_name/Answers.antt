@@ -2,11 +2,11 @@ use Rattle.std.proofs.Common.{true, false, subst}
 use Rattle.cbor_read.specs.Source.{Lends, slice_refusals}
 use Rattle.cbor_decode_as.specs.Strings.{LendsText, text_bytes}
 use Rattle.cbor_decode_as.specs.Takes.{context}
-use Rattle.cbor_serde_de.specs.Keys.{PicksItem}
+use Rattle.cbor_serde_de.specs.PickedNames.{PicksItem}
 use Rattle.cbor_serde_de.specs.Places.{input_of}
 use Rattle.cbor_read.specs.Sources.{input_of_slice}
 use Rattle.cbor_serde_de.proofs.Decoded.{text_lent}
-use Rattle.cbor_serde_de.proofs.Named.{text_picks}
+use Rattle.cbor_serde_de.proofs.PickedTexts.{text_picks}
 use Rattle.cbor_serde_de.proofs.cbor.Cbor.text_name.Goals as goal
 
 pub returns-in-Ok : goal.returns-in-Ok

@@ -1,6 +1,6 @@
 use Rattle.std.proofs.Common.{inr}
 use Rattle.cbor_model.specs.Refusal.{end_in_array}
-use Rattle.cbor_serde_de.proofs.Steps.{counted_down}
+use Rattle.cbor_serde_de.proofs.CountedDown.{counted_down}
 use Rattle.cbor_serde_de.proofs.format.CborFormat.next_item.Goals as goal
 
 pub returns-then-is_counted_down : goal.returns-then-is_counted_down

@@ -2,7 +2,7 @@ use Rattle.std.proofs.Common.{subst}
 use Rattle.cbor_serde_ser.specs.Follows.{Follows}
 use Rattle.cbor_serde_ser.specs.State.{state}
 use Rattle.cbor_serde_ser.proofs.Running.{finishes}
-use Rattle.cbor_serde_ser.proofs.Whole.{log_item}
+use Rattle.cbor_serde_ser.proofs.DocumentItem.{log_item}
 use Rattle.cbor_serde_ser.proofs.logged.Logged.finish.Goals as goal
 
 pub returns-in-Ok-clause-events : goal.returns-in-Ok-clause-events

@@ -1,5 +1,5 @@
 use Rattle.std.proofs.Common.{◌≡◌, ◌+◌, ◌-◌, ◌++◌, length, take, drop, ap, ◌∙◌, arith}
-use Rattle.cbor_writer.proofs.Sent.{given_more, held_more}
+use Rattle.cbor_writer.proofs.SentBlocks.{given_more, held_more}
 use Rattle.cbor_writer.proofs.blocks.Blocks.hold.Goals as goal
 
 pub returns-clause-given : goal.returns-clause-given

@@ -2,7 +2,7 @@ use Rattle.std.proofs.Common.{◌-◌, take, drop, refl, sym, subst}
 use Rattle.std.proofs.lemmas.List.{length-take-le}
 use Rattle.std.proofs.lemmas.Slice.{between_is}
 use Rattle.cbor_io.specs.Write.{Wrote}
-use Rattle.cbor_writer.proofs.Sent.{given_sent, sent_more, wrote_front}
+use Rattle.cbor_writer.proofs.SentBlocks.{given_sent, sent_more, wrote_front}
 use Rattle.cbor_writer.proofs.blocks.Blocks.send_block.Goals as goal
 
 pub returns-clause-kept : goal.returns-clause-kept

@@ -1,7 +1,7 @@
 use Rattle.std.proofs.Common.{take, sym, arith}
 use Rattle.std.proofs.lemmas.List.{length-take-le}
 use Rattle.std.proofs.lemmas.Result.{err_from_is_err_and}
-use Rattle.cbor_writer.proofs.Sent.{given_past, none_left, wrote_behind, wrote_front, wrote_none}
+use Rattle.cbor_writer.proofs.SentBlocks.{given_past, none_left, wrote_behind, wrote_front, wrote_none}
 use Rattle.cbor_writer.proofs.blocks.Blocks.write_through.Goals as goal
 
 pub returns-in_err-send_block-clause-given : goal.returns-in_err-send_block-clause-given

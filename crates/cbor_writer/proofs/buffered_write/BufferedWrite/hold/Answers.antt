@@ -2,7 +2,7 @@ use Rattle.std.proofs.Common.{◌≡◌, ◌+◌, ◌-◌, ◌++◌, length, tak
 use Rattle.std.proofs.KnownBytes.{append_known-grown, Keeps-refl}
 use Rattle.std.proofs.lemmas.List.{with_items_is, places}
 use borrow.Rule.Slice.PartMut.{put_mid}
-use Rattle.cbor_writer.proofs.Sent.{held_more}
+use Rattle.cbor_writer.proofs.SentBlocks.{held_more}
 use Rattle.cbor_writer.proofs.buffered_write.BufferedWrite.hold.Goals as goal
 
 pub returns : goal.returns

@@ -1,4 +1,4 @@
-use Rattle.cbor_writer.proofs.Sent.{nothing_held}
+use Rattle.cbor_writer.proofs.SentBlocks.{nothing_held}
 use Rattle.cbor_writer.proofs.buffered_write.BufferedWrite.new.Goals as goal
 
 pub returns-clause-ok : goal.returns-clause-ok

@@ -1,6 +1,6 @@
 use Rattle.std.proofs.Common.{◌≡◌, ◌-◌, ◌++◌, length, take, drop, ap, ◌∙◌, subst, OnOk}
 use Rattle.std.proofs.KnownBytes.{append_known-moved}
-use Rattle.cbor_writer.proofs.Sent.{sent_more, all_sent}
+use Rattle.cbor_writer.proofs.SentBlocks.{sent_more, all_sent}
 use Rattle.cbor_writer.proofs.buffered_write.BufferedWrite.send_block.Goals as goal
 
 pub returns-in_err-answer-clause-kept : goal.returns-in_err-answer-clause-kept

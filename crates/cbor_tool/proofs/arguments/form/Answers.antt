@@ -1,5 +1,5 @@
 use Rattle.cbor_tool.proofs.WordLists.{is_word, one_word, two_words, three_words}
-use Rattle.cbor_tool.proofs.words.form.Goals as goal
+use Rattle.cbor_tool.proofs.arguments.form.Goals as goal
 
 pub returns-in-len1 : goal.returns-in-len1
 returns-in-len1 c = one_word c.args.words.now c.raw-item.result _ c.in-len1.len_at_least c.in-len1.len_below c.raw-item.is

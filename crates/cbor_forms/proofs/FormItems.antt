@@ -8,7 +8,7 @@ use Rattle.cbor_model.specs.Plain.{Val}
 use Rattle.cbor_model.specs.Raw.{depth}
 use Rattle.cbor_model.proofs.facts.Documents.{document_is_canonical, document_item, storable_document}
 use Rattle.cbor_model.proofs.facts.Laws.{canonical_reads_back, document_is_acceptable}
-use Rattle.cbor_forms.specs.Encoded.{SpellsAtDepth}
+use Rattle.cbor_forms.specs.FormEncoding.{SpellsAtDepth}
 
 canonical_spells : (v : Val) (bytes : List ℕ) → IsStorable v → IsOrdered v → IsDocumentInRange (document_of v) → bytes ≡ canon v → SpellsAtDepth bytes v
 unfolding canon

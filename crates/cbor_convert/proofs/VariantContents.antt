@@ -9,7 +9,7 @@ use Rattle.cbor_io.specs.Error.{IsOutOfMemory}
 use Rattle.cbor_value.specs.declared.Value.{Value}
 use Rattle.cbor_value.specs.View.{view}
 use Rattle.cbor_convert.specs.Meaning.{Makes, value_of}
-use Rattle.cbor_convert.proofs.Made.{refused_memory}
+use Rattle.cbor_convert.proofs.MemoryAnswers.{refused_memory}
 use Rattle.cbor_convert.proofs.Meanings.{value_sequence, value_tuple, value_struct}
 
 abbrev under : List ℕ → Val → Val

@@ -17,7 +17,7 @@ use Rattle.cbor_ser.specs.Written.{IsNotWritten, IsRefusedBy, IsUnstorableCode, 
 use Rattle.cbor_decode_as.specs.Takes.{WhereTotal}
 use Rattle.cbor_de.specs.Whole.{from_reader_context}
 use Rattle.cbor_round_trip.specs.ReadBack.{IsReadBack}
-use Rattle.cbor_round_trip.proofs.Written.{written}
+use Rattle.cbor_round_trip.proofs.WrittenReadBack.{written}
 
 -- what a reader lends
 abbrev of_reader : Lends

@@ -12,7 +12,7 @@ use Rattle.std.proofs.lemmas.Slice.{between_is, take-put_mid}
 use borrow.Rule.Slice.PartMut.{put_mid}
 use Rattle.std.specs.Io.KnownBytes.{Appends, Keeps, append_known}
 use Rattle.cbor_io.specs.Write.{AppendsBeginning, Wrote}
-use Rattle.cbor_writer.specs.Given.{given}
+use Rattle.cbor_writer.specs.GivenByBlocks.{given}
 
 -- ---- the block
 

@@ -15,7 +15,7 @@ use Rattle.cbor_decode.specs.Gives.{Fails, FailsBy}
 use Rattle.cbor_decode.specs.Heads.{passed}
 use Rattle.cbor_decode.proofs.facts.Steps.{passed_stops, passed_on}
 use Rattle.cbor_pushed.specs.Rests.{all_at, around_at, behind, ends_by, is_over, reading, rest_at}
-use Rattle.cbor_pushed.specs.Scanned.{ChunksEnd, IsCut, Stands, chunks_to, item_of}
+use Rattle.cbor_pushed.specs.Scanned.{ChunksEnd, IsCut, HasScanned, chunks_to, item_of}
 use Rattle.cbor_pushed.specs.declared.rest.Rest.{Rest}
 use Rattle.cbor_pushed.proofs.GoesOn.{cut, item_due}
 
@@ -43,7 +43,7 @@ module _ (total : ℕ) (tail : List ℕ) (f : Fault) where
   chunks_stop levels major (inr three) is =
       subst (λ (k : ℕ). item_at (reading total) levels ((32 * k + 31) ∷ tail) ≡ Err f) (sym three) (text_stops levels (subst (λ (k : ℕ). chunks_to 0 k tail ≡ Err f) three is))
 
-module _ (levels at chunks : ℕ) (innermost : Rest) (around : List Rest) (front : List ℕ) (s : Stands levels at chunks innermost around front) (short : length front < 2 ^ 64) where
+module _ (levels at chunks : ℕ) (innermost : Rest) (around : List Rest) (front : List ℕ) (s : HasScanned levels at chunks innermost around front) (short : length front < 2 ^ 64) where
   abbrev left : ℕ
   left = levels - length around
 

@@ -7,7 +7,7 @@ use Rattle.serde.specs.Names.{Finds}
 use Rattle.serde.specs.declared.name.Name.{Name}
 use Rattle.cbor_model.specs.Raw.{Raw}
 use Rattle.cbor_model.specs.Readable.{IsInteger, IsString}
-use Rattle.cbor_serde_options.specs.Keys.{key_number}
+use Rattle.cbor_serde_options.specs.IntegerKeys.{key_number}
 
 -- what stands for no name
 abbrev pub no_place : ℕ

@@ -2,13 +2,13 @@
 use Rattle.std.proofs.Common.{◌≡◌, ◌+◌, ◌<◌, ℕ, zero, suc, List, [], ◌∷◌, length, get_or, refl, sym, ap, ◌∙◌, arith, add-one, Bor, Option, Some, None, true, false}
 use Rattle.std.specs.Prelude.{map}
 use Rattle.cbor_model.specs.Document.{Doc, Fields, field, field_count, struct_variant}
-use Rattle.cbor_model.specs.Parts.{both, map_head, struct_head, fields, parts}
+use Rattle.cbor_model.specs.Parts.{in_turn, map_head, struct_head, fields, parts}
 use Rattle.std.specs.Option.{is_some}
 use Rattle.cbor_ser.specs.PartLists.{name_in, field_if}
 
 -- the head of a variant, and its fields
-pub variant_head_of : (i : ℕ) (name : List ℕ) (fs : Fields) (n : ℕ) → n ≡ field_count fs → both (both (struct_head i name) (map_head (Some n))) (fields fs) ≡ parts (struct_variant i name fs)
-variant_head_of i name fs n counted = ap (λ n. both (both (struct_head i name) (map_head (Some n))) (fields fs)) counted
+pub variant_head_of : (i : ℕ) (name : List ℕ) (fs : Fields) (n : ℕ) → n ≡ field_count fs → in_turn (in_turn (struct_head i name) (map_head (Some n))) (fields fs) ≡ parts (struct_variant i name fs)
+variant_head_of i name fs n counted = ap (λ n. in_turn (in_turn (struct_head i name) (map_head (Some n))) (fields fs)) counted
 
 module _ (i : ℕ) (o : Option Doc) (ns : List (List ℕ)) (others : ℕ → Fields) where
   -- a field that is written, and those after it

@@ -15,7 +15,7 @@ use native.Mathlib.Nat.{mul_assoc, mul_right_comm, mul-one, mul-mod_left}
 use native.Mathlib.Nat.{eq_of_mul-eq-mul_right, mul-le-mul_left, mul-le-mul_right}
 use native.Mathlib.Nat.{pow-succ', div-add-mod'}
 use Rattle.cbor_forms.specs.Reduced.{signed, integer_of}
-use Rattle.cbor_forms.specs.Whole.{whole_by, whole_of, with_sign}
+use Rattle.cbor_forms.specs.WholeOfBits.{whole_by, whole_of, with_sign}
 
 -- ---- whole numbers
 

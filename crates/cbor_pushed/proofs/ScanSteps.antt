@@ -16,7 +16,7 @@ use Rattle.cbor_decode.specs.declared.cursor.Remaining.TheVariants.{Counted}
 use Rattle.cbor_decode.proofs.facts.Readings.{along, value_seen}
 use Rattle.cbor_decode.proofs.facts.Steps.{passed_was}
 use Rattle.cbor_pushed.specs.Rests.{all_at, around_at, behind, ends_by, is_over, reading, rest_at}
-use Rattle.cbor_pushed.specs.Scanned.{Follows, IsWhole, Left, Opens, Stands, Steps}
+use Rattle.cbor_pushed.specs.Scanned.{Follows, IsWhole, Left, HasHead, HasScanned, Steps}
 use Rattle.cbor_pushed.specs.declared.rest.Rest.{Rest}
 use Rattle.cbor_pushed.specs.declared.rest.Rest.TheVariants.{Items}
 use Rattle.cbor_pushed.specs.declared.scan.Scan.{Scan}
@@ -84,7 +84,7 @@ around_more total levels (o ∷ os) r bs =
 -- ---- steps
 
 -- nothing was passed
-pub begun : (levels : ℕ) (front : List ℕ) → Stands levels 0 0 (Items (Counted 1)) [] front
+pub begun : (levels : ℕ) (front : List ℕ) → HasScanned levels 0 0 (Items (Counted 1)) [] front
 unfolding around_at
 begun levels front = record {
   within = omega arith;
@@ -96,7 +96,7 @@ begun levels front = record {
       rw e (sym (one total levels (front ++ more)) ∙ sym (unit_then (rest_at total levels (Items (Counted 1)) (front ++ more))));
 }
 
-module _ (levels at chunks : ℕ) (innermost : Rest) (around : List Rest) (front : List ℕ) (s : Stands levels at chunks innermost around front) where
+module _ (levels at chunks : ℕ) (innermost : Rest) (around : List Rest) (front : List ℕ) (s : HasScanned levels at chunks innermost around front) where
   abbrev left : ℕ
   left = levels - length around
 
@@ -114,7 +114,7 @@ module _ (levels at chunks : ℕ) (innermost : Rest) (around : List Rest) (front
   abbrev pub EndsAtPlace : ℕ → Type 0
   EndsAtPlace end = (total : ℕ) (more : List ℕ) → rest_at total left innermost (to_come more) ≡ Ok (tt, drop end front ++ more)
 
-  pub left_for : (end : ℕ) (r : Rest) (others : List Rest) → end ≤ length front → EndsAtPlace end → around ≡ others ++ (r ∷ []) → Stands levels end 0 r others front
+  pub left_for : (end : ℕ) (r : Rest) (others : List Rest) → end ≤ length front → EndsAtPlace end → around ≡ others ++ (r ∷ []) → HasScanned levels end 0 r others front
   left_for end r others within ends is = record {
     within = within;
     nested = omega (arith, s.nested, ap length is, length-append others (r ∷ []));
@@ -126,7 +126,7 @@ module _ (levels at chunks : ℕ) (innermost : Rest) (around : List Rest) (front
         ∙ around_more (total more) levels others r (drop end front ++ more);
   }
 
-  pub left_last : (end : ℕ) → end ≤ length front → EndsAtPlace end → around ≡ [] → Stands levels end 0 (Items (Counted 0)) [] front
+  pub left_last : (end : ℕ) → end ≤ length front → EndsAtPlace end → around ≡ [] → HasScanned levels end 0 (Items (Counted 0)) [] front
   unfolding around_at
   left_last end within ends is = record {
     within = within;
@@ -158,7 +158,7 @@ module _ (levels at chunks : ℕ) (innermost : Rest) (around : List Rest) (front
 
     -- it was passed
     pub item_passed : (end : ℕ) → AreBytes (drop at front) → end ≤ length front → passed (item_at (reading (length front)) left (drop at front)) ≡ Ok (tt, drop end front)
-        → Stands levels end 0 (behind innermost) around front
+        → HasScanned levels end 0 (behind innermost) around front
     item_passed end fits within is = record {
       within = within;
       nested = s.nested;
@@ -170,7 +170,7 @@ module _ (levels at chunks : ℕ) (innermost : Rest) (around : List Rest) (front
     }
 
     -- it was entered
-    pub entered : (r : Rest) (n : ℕ) → length around < levels → Opens (drop at front) r n → Stands levels (at + n) 0 r (around ++ (behind innermost ∷ [])) front
+    pub entered : (r : Rest) (n : ℕ) → length around < levels → HasHead (drop at front) r n → HasScanned levels (at + n) 0 r (around ++ (behind innermost ∷ [])) front
     entered r n deeper opens = record {
       within = omega (arith, opens.within, length-drop at front);
       nested = omega (arith, length-append around (behind innermost ∷ []));
@@ -200,15 +200,15 @@ module _ (levels at chunks : ℕ) (innermost : Rest) (around : List Rest) (front
 
 -- the same of equal places
 stands_same : (levels at at' chunks chunks' : ℕ) (i i' : Rest) (around around' : List Rest) (front : List ℕ) → at' ≡ at → chunks' ≡ chunks → i' ≡ i → around' ≡ around
-    → Stands levels at chunks i around front → Stands levels at' chunks' i' around' front
+    → HasScanned levels at chunks i around front → HasScanned levels at' chunks' i' around' front
 stands_same levels at at' chunks chunks' i i' around around' front p q r t s =
-    subst (λ (n : ℕ). Stands levels n chunks' i' around' front) (sym p)
-    (subst (λ (n : ℕ). Stands levels at n i' around' front) (sym q)
-    (subst (λ (o : Rest). Stands levels at chunks o around' front) (sym r)
-    (subst (λ (os : List Rest). Stands levels at chunks i os front) (sym t) s)))
+    subst (λ (n : ℕ). HasScanned levels n chunks' i' around' front) (sym p)
+    (subst (λ (n : ℕ). HasScanned levels at n i' around' front) (sym q)
+    (subst (λ (o : Rest). HasScanned levels at chunks o around' front) (sym r)
+    (subst (λ (os : List Rest). HasScanned levels at chunks i os front) (sym t) s)))
 
 -- whole, where nothing is to come
-pub whole_now : (levels end : ℕ) (front : List ℕ) → length front < 2 ^ 64 → Stands levels end 0 (Items (Counted 0)) [] front → IsWhole levels front end
+pub whole_now : (levels end : ℕ) (front : List ℕ) → length front < 2 ^ 64 → HasScanned levels end 0 (Items (Counted 0)) [] front → IsWhole levels front end
 unfolding around_at
 whole_now levels end front short s =
     let P : List ℕ → List ℕ → Type 0 = λ all here. passed (item_at (reading (length all)) levels all) ≡ all_at (length all) levels [] (Items (Counted 0)) here in

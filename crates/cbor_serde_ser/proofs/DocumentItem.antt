@@ -19,7 +19,7 @@ use Rattle.serde.specs.Event as event
 use Rattle.serde.specs.Spelling.{spelled}
 use Rattle.serde.specs.declared.name.NameKind.TheVariants.{Field, Variant}
 use Rattle.serde.specs.Event.{Event, Log}
-use Rattle.cbor_serde_options.specs.Keys.{key_number, negative as negative_key, positive, magnitude}
+use Rattle.cbor_serde_options.specs.IntegerKeys.{key_number, negative as negative_key, positive, magnitude}
 use Rattle.cbor_serde_options.specs.declared.options.Options.{Options}
 use Rattle.cbor_serde_ser.specs.declared.level.Level.{Level}
 use Rattle.cbor_serde_ser.specs.Floats.{half_of, half_or_single, single_bytes, is_single}

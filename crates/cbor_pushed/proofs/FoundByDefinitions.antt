@@ -20,8 +20,8 @@ use Rattle.cbor_pushed.specs.ItemAtFront.{HasItem, HasNoItem, IsRefused, IsUnfin
 use Rattle.cbor_pushed.specs.Rests.{reading}
 use Rattle.cbor_pushed.specs.Scanned.{HasFault, IsCut, IsWhole, item_of}
 use Rattle.cbor_pushed.proofs.ForGood.{for_good}
-use Rattle.cbor_pushed.proofs.Found.{stopped_by}
-use Rattle.cbor_pushed.proofs.Standing.{passed_again, stands_there}
+use Rattle.cbor_pushed.proofs.ScannedBytes.{stopped_by}
+use Rattle.cbor_pushed.proofs.ScanSteps.{passed_again, stands_there}
 
 not_both : (r : Reads Val) (f : Fault) (rest : List ℕ) → r ≡ Err f → passed r ≡ Ok (tt, rest) → ⊥
 not_both (Ok x) f rest is other = absurd cc

@@ -3,7 +3,7 @@ use Rattle.std.proofs.Common.{◌≡◌, ℕ, ◌-◌, ◌≤◌, Bool, true, fa
 use Rattle.std.specs.Prelude.{nat_lt}
 use Rattle.std.proofs.lemmas.Bool.{ltb-true}
 use Rattle.std.proofs.lemmas.List.{length-append}
-use Rattle.cbor_model.specs.Room.{held, whole}
+use Rattle.cbor_model.specs.SliceWrites.{held, whole}
 
 abbrev begins : List ℕ → List ℕ → Type 0
 begins front all = (rest : List ℕ) × (front ++ rest ≡ all)

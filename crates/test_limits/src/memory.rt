@@ -9,7 +9,7 @@ use cbor_value::Value;
 use std::alloc::Global;
 use std::process::Abort;
 use std::test::Fail;
-use test_checks::{Done, is_refused};
+use test_checks::{Verdict, is_refused};
 
 /// An array of indefinite length, of so many zeros (RFC 7049, section 2.2.1).
 fn zeros(alloc: Global, count: usize) -> Result<Vec<u8>, Fail> {
@@ -43,7 +43,7 @@ fn values(alloc: Global, bytes: &[u8]) -> Result<Vec<Value>, Fail> {
 }
 
 #[test]
-fn grows_by_doubling(rt: HostRuntime) -> Done {
+fn grows_by_doubling(rt: HostRuntime) -> Verdict {
     let alloc = rt.alloc();
     let bytes = zeros(alloc, 65_537)?;
     let numbers = numbers(alloc, &bytes)?;
@@ -55,7 +55,7 @@ fn grows_by_doubling(rt: HostRuntime) -> Done {
 
 // The head of 65,533 items is of three bytes, and one more is written than 65,536.
 #[test]
-fn writes_by_doubling(rt: HostRuntime) -> Done {
+fn writes_by_doubling(rt: HostRuntime) -> Verdict {
     let alloc = rt.alloc();
     let written = to_vec(alloc, &numbers(alloc, &zeros(alloc, 65_534)?)?)?;
     has_doubled(&rt, written.len(), written.capacity());
@@ -63,7 +63,7 @@ fn writes_by_doubling(rt: HostRuntime) -> Done {
 }
 
 /// So many zeros are read into a vector of at most so much room.
-fn takes_room(rt: &impl Abort, alloc: Global, bytes: &[u8], count: usize, most: usize) -> Done {
+fn takes_room(rt: &impl Abort, alloc: Global, bytes: &[u8], count: usize, most: usize) -> Verdict {
     let numbers = numbers(alloc, bytes)?;
     assert!(rt; numbers.len() == count && numbers.capacity() <= most);
     let values = values(alloc, bytes)?;
@@ -72,7 +72,7 @@ fn takes_room(rt: &impl Abort, alloc: Global, bytes: &[u8], count: usize, most: 
 }
 
 #[test]
-fn takes_room_for_the_items_that_there_are(rt: HostRuntime) -> Done {
+fn takes_room_for_the_items_that_there_are(rt: HostRuntime) -> Verdict {
     for (bytes, count, most) in [
         (&b"\x80"[..], 0, 0),
         (b"\x81\0", 1, 1),
@@ -88,7 +88,7 @@ fn takes_room_for_the_items_that_there_are(rt: HostRuntime) -> Done {
 
 // What a reader passes over is held one string at a time.
 #[test]
-fn holds_what_it_skips_alone(rt: HostRuntime) -> Done {
+fn holds_what_it_skips_alone(rt: HostRuntime) -> Verdict {
     let alloc = rt.alloc();
     let bytes = zeros(alloc, 65_536)?;
     let mut source = IoRead::new(alloc, bytes.as_slice());
@@ -107,7 +107,7 @@ fn strict_number(alloc: Global, bytes: &[u8]) -> Answer<u32> {
 
 // A text that is lent, a number, and a head that isn't the shortest (.ci/growths).
 #[test]
-fn reads_strictly_without_memory(rt: HostRuntime) -> Done {
+fn reads_strictly_without_memory(rt: HostRuntime) -> Verdict {
     let alloc = rt.alloc();
     let text: &str = from_slice_canonical_as(alloc, b"\x65hello")?;
     assert!(rt; text == "hello");
