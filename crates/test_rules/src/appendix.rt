@@ -1,6 +1,6 @@
 //! The examples of RFC 8949, Appendix A.
 
-use crate::checks::Verdict::{Departs, Keeps};
+use crate::checks::Expected::{Departs, Keeps};
 use crate::checks::{Row, all_depart, all_keep, all_pass, judges};
 use cbor_rules::{Rule, Rules};
 use test_checks::Verdict;

@@ -112,7 +112,7 @@ pub fn all_pass(alloc: Global, rules: Rules, rows: &[(&[u8], u64)]) -> Verdict {
 
 /// What bytes do by some rules.
 #[derive(Clone, Copy)]
-pub enum Verdict {
+pub enum Expected {
     /// They keep the rules.
     Keeps,
     /// They depart from this rule first, at this offset.
@@ -120,14 +120,14 @@ pub enum Verdict {
 }
 
 /// Rules, bytes, and what these do.
-pub type Row = (Rules, &'static [u8], Verdict);
+pub type Row = (Rules, &'static [u8], Expected);
 
 /// The bytes of each row do what it says.
 pub fn judges(rt: &impl Abort, alloc: Global, rows: &[Row]) -> Verdict {
     for (rules, bytes, verdict) in rows {
         match verdict {
-            Verdict::Keeps => keeps(alloc, *rules, bytes)?,
-            Verdict::Departs(rule, offset) => departs(rt, alloc, *rules, bytes, *rule, *offset)?,
+            Expected::Keeps => keeps(alloc, *rules, bytes)?,
+            Expected::Departs(rule, offset) => departs(rt, alloc, *rules, bytes, *rule, *offset)?,
         }
     }
     Ok(())

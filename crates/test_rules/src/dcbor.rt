@@ -1,6 +1,6 @@
 //! dCBOR (draft-mcnally-deterministic-cbor).
 
-use crate::checks::Verdict::{Departs, Keeps};
+use crate::checks::Expected::{Departs, Keeps};
 use crate::checks::{Form, Row, all_depart, all_keep, all_pass, is_written, judges};
 use cbor_rules::{Rule, Rules};
 use test_checks::Verdict;

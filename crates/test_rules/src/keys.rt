@@ -1,6 +1,6 @@
 //! The orders of keys.
 
-use crate::checks::Verdict::{Departs, Keeps};
+use crate::checks::Expected::{Departs, Keeps};
 use crate::checks::{Form, Row, all_depart, departs, is_written, judges, keeps};
 use cbor_rules::{KeyOrder, Rule, Rules};
 use test_checks::Verdict;

@@ -1,6 +1,6 @@
 //! Limits: of an array's items, a map's pairs and a string's bytes.
 
-use crate::checks::Verdict::{Departs, Keeps};
+use crate::checks::Expected::{Departs, Keeps};
 use crate::checks::{Row, all_depart, all_keep, all_pass, judges};
 use cbor_rules::{Rule, Rules};
 use test_checks::Verdict;

@@ -1,6 +1,6 @@
 //! What public protocols print: whether CTAP2 would accept it, and whether a map has a key twice.
 
-use crate::checks::Verdict::{Departs, Keeps};
+use crate::checks::Expected::{Departs, Keeps};
 use crate::checks::{Row, all_depart, all_keep, all_pass, departs, judges, keeps};
 use crate::published::{
     ATTESTATION, CLAIMS, CREDENTIAL_KEY, ENCRYPTED, INFO, ISSUED, KEY_SET, MACED, MACED_ISSUED,

@@ -1,6 +1,6 @@
 //! Each rule by itself, and what is reported first.
 
-use crate::checks::Verdict::{Departs, Keeps};
+use crate::checks::Expected::{Departs, Keeps};
 use crate::checks::{Row, agrees, all_depart, judges};
 use cbor_rules::{Refusal, Rule, Rules, from_slice_with};
 use cbor_value::Value;

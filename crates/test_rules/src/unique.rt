@@ -1,6 +1,6 @@
 //! Keys that may stand in any order, each value once.
 
-use crate::checks::Verdict::Departs;
+use crate::checks::Expected::Departs;
 use crate::checks::{Row, all_depart, all_keep, all_pass, departs, judges, keeps};
 use cbor_rules::{Rule, Rules};
 use test_checks::Verdict;
