@@ -1,18 +1,19 @@
 -- Lists of fields: the fields of a view, and what a call on a field adds to what is known of a struct.
 use Rattle.std.proofs.Common.{◌≡◌, ◌≤◌, ◌⊎◌, inl, inr, ℕ, zero, suc, ◌+◌, ◌++◌, Bool, true, false, List, [], ◌∷◌, length, Option, Some, None, Ok, Err, refl, sym, ap, subst, ◌∙◌, arith}
 use Rattle.std.specs.Option.{is_some}
-use Rattle.std.specs.Prelude.{Result, IsErrAnd, MatchBool}
+use Rattle.std.specs.Prelude.{Result, IfErr, IsErrAnd, MatchBool}
 use Rattle.cbor_model.specs.Formats as model
 use Rattle.cbor_model.specs.Reader.{item_at}
 use Rattle.cbor_read.specs.Source.{Input, TookSome}
 use Rattle.cbor_io.specs.Error.{code_of, offset_of}
 use Rattle.cbor_io.specs.declared.error.Error.{Error}
+use Rattle.cbor_io.specs.declared.error.ErrorCode.{ErrorCode}
 use Rattle.cbor_io.specs.declared.read_error.ReadErrorCode.{ReadErrorCode}
 use Rattle.cbor_decode.specs.Gives.{Step}
 use Rattle.cbor_decode.specs.declared.formats.Formats.{Formats}
 use Rattle.cbor_decode.specs.declared.cursor.Remaining.{Remaining}
 use Rattle.cbor_de.specs.Fields.{Slots, none_yet, AreHeld}
-use Rattle.cbor_described.specs.FieldLists.{over, IsLacking, slots_over, FieldTaken, FieldRefused, TakesSlot, TakesField}
+use Rattle.cbor_described.specs.FieldLists.{over, NamesLacking, ReadBefore, slots_over, FieldTaken, FieldRefused, TakesSlot, TakesField}
 use Rattle.cbor_decode_as.specs.MapAccesses.{IsMapHead}
 use Rattle.cbor_model.specs.Raw.{Raw}
 use Rattle.cbor_de.specs.Structs.{FieldOf, IsAny, IsMapOf, MeansOneField}
@@ -47,10 +48,17 @@ module _ {S T : Type 0} (view : S → T) where
   held_over [] slots x h = tt
   held_over (d ∷ fields) slots x h = (h.0, held_over fields slots.1 x h.1)
 
-  pub lacking_over : (fields : List (FieldOf T)) (slots : Slots fields) → IsLacking fields slots → IsLacking (over view fields) (slots_over view fields slots)
-  lacking_over [] slots h = h
-  lacking_over (d ∷ fields) slots (inl h) = inl h
-  lacking_over (d ∷ fields) slots (inr h) = inr (lacking_over fields slots.1 h)
+  pub lacking_over : (fields : List (FieldOf T)) (names : List (List ℕ)) (slots : Slots fields) (code : ErrorCode)
+      → NamesLacking fields names slots code → NamesLacking (over view fields) names (slots_over view fields slots) code
+  lacking_over [] names slots code h = h
+  lacking_over (d ∷ fields) [] slots code h = h
+  lacking_over (d ∷ fields) (name ∷ names) slots code (inl h) = inl h
+  lacking_over (d ∷ fields) (name ∷ names) slots code (inr h) = inr (h.0, lacking_over fields names slots.1 code h.1)
+
+  pub read_over : (fields : List (FieldOf T)) (i : ℕ) (slots : Slots fields) → ReadBefore (over view fields) i (slots_over view fields slots) → ReadBefore fields i slots
+  read_over [] i slots h = h
+  read_over (d ∷ fields) zero slots h = h
+  read_over (d ∷ fields) (suc i) slots h = read_over fields i slots.1 h
 
   module _ (f : model.Formats) (levels : ℕ) where
     pub taken_over : (fields : List (FieldOf T)) (i : ℕ) (old new : Slots fields) (s t : Input)
@@ -104,6 +112,24 @@ module _ {S : Type 0} (f : model.Formats) (levels : ℕ) (allowed : ReadErrorCod
     taken_behind (d ∷ front) (suc i) j is fs old new s t (Err e) h =
         let before : i ≡ length front + j = omega (arith, is) in
         taken_behind front i j before fs.1 old new s t (Err e) h
+
+-- one of the others after them was read before
+pub read_behind : {S T : Type 0} (view : S → T) (fields : List (FieldOf T)) (front : List (FieldOf S)) (i j : ℕ) → i ≡ length front + j → (fs : Slots front) (slots : Slots fields)
+    → ReadBefore (front ++ over view fields) i (joined front (over view fields) fs (slots_over view fields slots)) → ReadBefore fields j slots
+read_behind view fields [] i j is fs slots h =
+    let same : i ≡ j = omega (arith, is) in
+    read_over view fields j slots (subst (λ (i : ℕ). ReadBefore (over view fields) i (slots_over view fields slots)) same h)
+read_behind view fields (d ∷ front) zero j is fs slots h = absurd (omega (arith, is))
+read_behind view fields (d ∷ front) (suc i) j is fs slots h =
+    let before : i ≡ length front + j = omega (arith, is) in
+    read_behind view fields front i j before fs.1 slots h
+
+-- the same, of what is said of an Err
+pub twice_behind : {S T C : Type 0} (view : S → T) (fields : C → List (FieldOf T)) (front : C → List (FieldOf S)) (i j : ℕ) → ((k : C) → i ≡ length (front k) + j) → (fs : (k : C) → Slots (front k)) (slots : (k : C) → Slots (fields k)) (P : Error → Type 0) (r : Result (Unit {0}) Error)
+    → IfErr r (λ e. (k : C) → ReadBefore (fields k) j (slots k) → P e)
+    → IfErr r (λ e. (k : C) → ReadBefore (front k ++ over view (fields k)) i (joined (front k) (over view (fields k)) (fs k) (slots_over view (fields k) (slots k))) → P e)
+twice_behind view fields front i j is fs slots P (Ok u) h = h
+twice_behind view fields front i j is fs slots P (Err e) h = λ k before. h k (read_behind view (fields k) (front k) i j (is k) (fs k) (slots k) before)
 
 -- ---- a field that is at hand
 
@@ -175,10 +201,11 @@ passed_on f levels allowed i s t (Ok u) h = h
 passed_on f levels allowed i s t (Err e) h = h
 
 -- a field that wasn't read, and may not be absent
-pub lacking_is : {S : Type 0} (fields : List (FieldOf S)) (slots : Slots fields) → IsLacking fields slots → (i : ℕ) × LacksAt fields i slots
-lacking_is [] slots h = absurd h
-lacking_is (d ∷ fields) slots (inl h) = (0, h)
-lacking_is (d ∷ fields) slots (inr h) = let w = lacking_is fields slots.1 h in (suc w.0, w.1)
+pub lacking_is : {S : Type 0} (fields : List (FieldOf S)) (names : List (List ℕ)) (slots : Slots fields) (code : ErrorCode) → NamesLacking fields names slots code → (i : ℕ) × LacksAt fields i slots
+lacking_is [] names slots code h = absurd h
+lacking_is (d ∷ fields) [] slots code h = absurd h
+lacking_is (d ∷ fields) (name ∷ names) slots code (inl h) = (0, h.0)
+lacking_is (d ∷ fields) (name ∷ names) slots code (inr h) = let w = lacking_is fields names slots.1 code h.1 in (suc w.0, w.1)
 
 -- ---- what a call adds
 

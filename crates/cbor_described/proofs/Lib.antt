@@ -1,4 +1,5 @@
 pub mod FieldLists
+pub mod Lacking
 pub mod OneOfs
 pub mod OneParts
 pub mod Makings

@@ -1,5 +1,5 @@
 -- Lists of fields, of which structs are read.
-use Rattle.std.specs.Prelude.{◌≡◌, ℕ, zero, suc, Bool, false, List, [], ◌∷◌, Option, Some, ◌⊎◌}
+use Rattle.std.specs.Prelude.{◌≡◌, ℕ, zero, suc, Bool, true, false, List, [], ◌∷◌, Option, Some, ◌⊎◌}
 use Rattle.std.specs.Prelude.{Result, Ok, Err}
 use Rattle.std.specs.Option.{is_some}
 use Rattle.cbor_model.specs.Formats.{Formats}
@@ -7,11 +7,12 @@ use Rattle.cbor_model.specs.Raw.{Raw}
 use Rattle.cbor_model.specs.Reader.{item_at}
 use Rattle.cbor_io.specs.declared.error.Error.{Error}
 use Rattle.cbor_io.specs.declared.read_error.ReadErrorCode.{ReadErrorCode}
-use Rattle.cbor_io.specs.Error.{code_of, offset_of}
+use Rattle.cbor_io.specs.declared.error.ErrorCode.{ErrorCode}
+use Rattle.cbor_io.specs.Error.{IsMessageOf, code_of, offset_of}
 use Rattle.cbor_read.specs.Source.{Input}
 use Rattle.cbor_decode.specs.Gives.{Step}
 use Rattle.cbor_de.specs.Fields.{Slots, Lacks}
-use Rattle.cbor_de.specs.Structs.{FieldOf, field_or, IsAny}
+use Rattle.cbor_de.specs.Structs.{FieldOf, field_or, IsAny, missing_text}
 use Rattle.cbor_decode_as.specs.Takes.{raws, IsRead, IsNotRead, Refuses}
 
 -- the fields of a T, as those of what a T is a view of
@@ -20,10 +21,20 @@ over view [] = []
 over view (d ∷ fields) = field_or d.reads d.missing (λ x. d.of (view x)) ∷ over view fields
 
 module _ {S : Type 0} where
-  -- a field wasn't read, and may not be absent
-  abbrev pub IsLacking : (fields : List (FieldOf S)) → Slots fields → Type 0
-  IsLacking [] slots = ⊥
-  IsLacking (d ∷ fields) slots = Lacks d.missing slots.0 ⊎ IsLacking fields slots.1
+  -- The first field that wasn't read, and may not be absent, is the one that a message names.
+  abbrev pub NamesLacking : (fields : List (FieldOf S)) → List (List ℕ) → Slots fields → ErrorCode
+      → Type 0
+  NamesLacking [] names slots code = ⊥
+  NamesLacking (d ∷ fields) [] slots code = ⊥
+  NamesLacking (d ∷ fields) (name ∷ names) slots code =
+      (Lacks d.missing slots.0 × IsMessageOf (Some (missing_text name)) code)
+      ⊎ ((Lacks d.missing slots.0 → ⊥) × NamesLacking fields names slots.1 code)
+
+  -- the i-th field was read before
+  abbrev pub ReadBefore : (fields : List (FieldOf S)) → ℕ → Slots fields → Type 0
+  ReadBefore [] i slots = ⊥
+  ReadBefore (d ∷ fields) zero slots = is_some slots.0 ≡ true
+  ReadBefore (d ∷ fields) (suc i) slots = ReadBefore fields i slots.1
 
 -- empty slots of fields, over what the fields are a view of
 abbrev pub slots_over : {S T : Type 0} → (view : S → T) → (fields : List (FieldOf T)) → Slots fields

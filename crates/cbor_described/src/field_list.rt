@@ -1,13 +1,14 @@
 //! Lists of fields, of which structs are read.
 
-ghost use Rattle.std.specs.Prelude.{◌≡◌, ◌≤◌, true, length, Some, Ok, IfOk, IfErr, OnOk};
+ghost use Rattle.std.specs.Prelude.{◌≡◌, ◌≤◌, true, length, map, Some, Ok, IfOk, IfErr, OnOk};
 ghost use Rattle.std.specs.Prelude.{MatchBool};
 ghost use Rattle.std.specs.Bool.{OnFalse};
 ghost use Rattle.std.specs.Option.{is_some};
 ghost use Rattle.cbor_model.specs.Readable.{Context};
 ghost use Rattle.cbor_parts.specs.Keys.{AreKeysOf, keys_of};
 ghost use Rattle.cbor_decode.specs.Decoder.{SameSettings};
-ghost use Rattle.cbor_described.specs.FieldLists.{FieldTaken, IsLacking, TakesField, TakesSlot};
+ghost use Rattle.cbor_described.specs.FieldLists.{FieldTaken, NamesLacking, TakesField, TakesSlot};
+ghost use Rattle.cbor_described.specs.FieldLists.{ReadBefore};
 ghost use Rattle.cbor_de.specs.Fields.{AreHeld, IsHeld, Lacks, none_yet};
 ghost use Rattle.cbor_de.specs.Structs.{IsAny, IsKeyed, IsMapOf, duplicate_text, missing_text};
 ghost use Rattle.cbor_io.specs.Error.{IsMessageOf, code_of};
@@ -58,7 +59,8 @@ pub(crate) trait FieldList: Sized + Drop {
         requires { length names.now ≡ Self.count }
         ensures all { IfOk result (λ x. (c : Context)
             → AreHeld (fields c) (slots c held) x) }
-        ensures lacking { IfErr result (λ e. (c : Context) → IsLacking (fields c) (slots c held)) }
+        ensures lacking { IfErr result (λ e. (c : Context) → NamesLacking (fields c)
+            (map (λ n. n.now) names.now) (slots c held) (code_of e)) }
         ensures no_form { IfErr result (λ e. ReportsNoForm (code_of e)) };
 }
 
@@ -71,6 +73,10 @@ pub(crate) trait ReadFields<'de, R: Read<'de>>: FieldList {
             TakesField (formats_of de.old.decoder.formats) de.old.decoder.levels R.refusals
             (Self.fields c) i (Self.slots c held.old) (Self.slots c held.new)
             (R.source de.old.decoder.source) (R.source de.new.decoder.source) result }
+        // A slot that has a value is refused by the name.
+        ensures twice { IfErr result (λ e. (c : Context)
+            → ReadBefore (Self.fields c) i (Self.slots c held.old)
+            → IsMessageOf (Some (duplicate_text name.now)) (code_of e)) }
         ensures form { IfErr result
             (call.MayReport R.source (any_of key_form Self.wrong_forms) de.old) }
         ensures forward { IfOk result (λ u. (R.source de.old.decoder.source).offset

@@ -153,7 +153,7 @@ returns-in_err-parts-clause-read g c =
     let keyed = IsKeyed keys in
     let fields = g.F.FieldList.fields k in
     let e = c.in_err-parts.field-0.0 in
-    let lacking = lacking_is fields (g.F.FieldList.slots k c.fields.held) (c.in_err-parts.ensures.lacking k) in
+    let lacking = lacking_is fields _ (g.F.FieldList.slots k c.fields.held) (code_of e) (c.in_err-parts.ensures.lacking k) in
     unread keyed fields g.R.Source.refusals old.formats old.levels (g.R.Source.source old.source) _ e c.from_residual-in_err-parts.result c.from_residual-in_err-parts.ensures.1
     (field_missing keyed fields c.fields.invariant.so_far c.in_ok-field.field-0 c.in_default.is c.next_key.new.remaining c.in_ok-field.ensures.read g.R.Source.refusals (code_of e) (offset_of e) lacking.0 lacking.1) (search rules)
 

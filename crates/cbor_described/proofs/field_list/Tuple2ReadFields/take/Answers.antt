@@ -2,7 +2,7 @@ use Rattle.std.proofs.Common.{[], ◌∷◌, ◌≡◌, ◌+◌, ◌-◌, arith}
 use Rattle.cbor_de.specs.Structs.{field_or}
 use Rattle.cbor_decode_as.specs.Takes.{context, formats_of}
 use Rattle.cbor_described.specs.FieldLists.{over, slots_over}
-use Rattle.cbor_described.proofs.FieldLists.{slot_taken, taken_behind}
+use Rattle.cbor_described.proofs.FieldLists.{slot_taken, taken_behind, twice_behind}
 use Rattle.cbor_de.specs.Forms.{key_form}
 use Rattle.cbor_described.proofs.FieldForms.{of_first, of_others}
 use Rattle.cbor_described.proofs.field_list.Tuple2ReadFields.take.Goals as goal
@@ -28,3 +28,9 @@ returns-then-i-ne0-clause-form g c = of_others key_form g.A.Of.Readable.wrong_fo
 
 pub returns-clause-form : goal.returns-clause-form
 returns-clause-form g c = of_first key_form g.A.Of.Readable.wrong_forms g.F.FieldList.wrong_forms _ _ c.take_slot.result c.take_slot.ensures.form
+
+pub returns-then-i-ne0-clause-twice : goal.returns-then-i-ne0-clause-twice
+returns-then-i-ne0-clause-twice g c =
+    let i = c.args.i in
+    let place : i ≡ 1 + (i - 1) = omega (arith, c.if-i-ne0.true) in
+    twice_behind (λ p. p.1) g.F.FieldList.fields (λ k. field_or (g.A.FieldType.reads k) g.A.FieldType.missing (λ p. p.0) ∷ []) i (i - 1) (λ k. place) (λ k. (c.args.held.now.0, tt)) (λ k. g.F.FieldList.slots k c.args.held.now.1) _ c.take.result c.take.ensures.twice

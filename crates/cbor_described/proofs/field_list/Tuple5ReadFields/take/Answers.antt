@@ -2,7 +2,7 @@ use Rattle.std.proofs.Common.{[], ◌∷◌, ◌≡◌, ◌+◌, ◌-◌, arith}
 use Rattle.cbor_de.specs.Structs.{field_or}
 use Rattle.cbor_decode_as.specs.Takes.{context, formats_of}
 use Rattle.cbor_described.specs.FieldLists.{over, slots_over}
-use Rattle.cbor_described.proofs.FieldLists.{slot_taken, taken_behind}
+use Rattle.cbor_described.proofs.FieldLists.{slot_taken, taken_behind, twice_behind}
 use Rattle.cbor_de.specs.Forms.{any_of, key_form}
 use Rattle.cbor_described.proofs.FieldForms.{of_first, of_others}
 use Rattle.cbor_described.proofs.field_list.Tuple5ReadFields.take.Goals as goal
@@ -76,3 +76,13 @@ returns-in_default-clause-form g c =
     let r = c.take.result in
     of_others key_form g.A.Of.Readable.wrong_forms (any_of g.B.Of.Readable.wrong_forms (any_of g.C.Of.Readable.wrong_forms (any_of g.D.Of.Readable.wrong_forms g.F.FieldList.wrong_forms))) _ _ r (of_others key_form g.B.Of.Readable.wrong_forms (any_of g.C.Of.Readable.wrong_forms (any_of g.D.Of.Readable.wrong_forms g.F.FieldList.wrong_forms)) _ _ r
     (of_others key_form g.C.Of.Readable.wrong_forms (any_of g.D.Of.Readable.wrong_forms g.F.FieldList.wrong_forms) _ _ r (of_others key_form g.D.Of.Readable.wrong_forms g.F.FieldList.wrong_forms _ _ r c.take.ensures.form)))
+
+-- ---- a field that was read before
+
+pub returns-in_default-clause-twice : goal.returns-in_default-clause-twice
+returns-in_default-clause-twice g c =
+    let held = c.args.held.now in
+    let i = c.args.i in
+    let place : i ≡ 4 + (i - 4) = omega (arith, c.in_default) in
+    twice_behind (λ p. p.4) g.F.FieldList.fields (λ k. field_or (g.A.FieldType.reads k) g.A.FieldType.missing (λ p. p.0) ∷ field_or (g.B.FieldType.reads k) g.B.FieldType.missing (λ p. p.1) ∷ field_or (g.C.FieldType.reads k) g.C.FieldType.missing (λ p. p.2) ∷ field_or (g.D.FieldType.reads k) g.D.FieldType.missing (λ p. p.3) ∷ [])
+    i (i - 4) (λ k. place) (λ k. (held.0, (held.1, (held.2, (held.3, tt))))) (λ k. g.F.FieldList.slots k held.4) _ c.take.result c.take.ensures.twice
