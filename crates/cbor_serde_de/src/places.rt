@@ -1,7 +1,8 @@
 //! The places of keys among names.
 
 ghost use Rattle.std.specs.Prelude.{◌≡◌, ◌↔◌, ◌<◌, ◌+◌, [], false, length, IsTrue, IfOk, IfSome, MatchBool};
-ghost use Rattle.std.specs.Prelude.{IsUtf8, OnSome};
+ghost use Rattle.std.specs.Prelude.{IsUtf8, OnSome, nat_eq};
+ghost use Rattle.std.specs.Cmp.Lexicographic.{pointwise};
 ghost use Rattle.serde.specs.Names.{Finds, NoneBelow, StandsFor};
 ghost use Rattle.cbor_read.specs.Source.{part_bytes};
 ghost use Rattle.cbor_decode_as.specs.Strings.{text_bytes};
@@ -45,6 +46,15 @@ fn is_plain(name: &Name<'_>) -> bool
     !name.skipped && matches!(name.case, Case::AsIs) && name.aliases.is_empty()
 }
 
+// Whether a key is these bytes of a name. Where the name is known when the program is compiled this
+// leaves a few compares, where `==` calls a function for all but the first four bytes.
+#[inline(always)]
+fn is_same(name: &[u8], key: &[u8]) -> bool
+    ensures { result ≡ pointwise nat_eq name.now key.now }
+{
+    name.len() == key.len() && key.starts_with(name)
+}
+
 // Whether a key of these bytes stands for the name, if that is plain.
 #[inline(always)]
 fn is_plain_name(name: &Name<'_>, key: &[u8]) -> Option<bool>
@@ -52,7 +62,7 @@ fn is_plain_name(name: &Name<'_>, key: &[u8]) -> Option<bool>
     ensures utf8 { IfSome result (λ b. IsTrue b → IsUtf8 key.now) }
 {
     if is_plain(name) {
-        Some(name.name.as_bytes() == key)
+        Some(is_same(name.name.as_bytes(), key))
     } else {
         None
     }

@@ -6,7 +6,7 @@ use Rattle.cbor_serde_de.proofs.places.is_plain_name.Goals as goal
 pub returns-then-is_plain-clause-named : goal.returns-then-is_plain-clause-named
 returns-then-is_plain-clause-named c =
     let plain = c.is_plain.ensures (grind (arith, common_steps)) in
-    stands_for c.args.name.now c.args.key.now c.as_bytes.result.now c.eq.result plain.0 plain.1 plain.2 c.as_bytes.ensures.value c.eq.ensures
+    stands_for c.args.name.now c.args.key.now c.as_bytes.result.now c.is_same.result plain.0 plain.1 plain.2 c.as_bytes.ensures.value c.is_same.ensures
 
 pub returns-then-is_plain-clause-utf8 : goal.returns-then-is_plain-clause-utf8
-returns-then-is_plain-clause-utf8 c = utf8_key c.as_bytes.result.now c.args.key.now c.eq.result c.as_bytes.ensures.utf8 c.eq.ensures
+returns-then-is_plain-clause-utf8 c = utf8_key c.as_bytes.result.now c.args.key.now c.is_same.result c.as_bytes.ensures.utf8 c.is_same.ensures
