@@ -7,7 +7,7 @@ use Rattle.cbor_serde_ser.specs.declared.reason.Reason.TheVariants.{OutOfMemory}
 use Rattle.cbor_serde_ser.specs.declared.writer.Writer.{Writer}
 
 abbrev pub state : Writer → State
-state w = record { bytes = w.out.items; level = w.level; outer = reverse w.outer.items; flattens = w.flattens; begun = w.begun }
+state w = record { bytes = w.out; level = w.level; outer = reverse w.outer.items; flattens = w.flattens; begun = w.begun }
 
 -- the event was written, which may come there
 abbrev pub Writes : Writer → Event → Writer → Type 0

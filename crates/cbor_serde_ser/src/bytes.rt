@@ -1,6 +1,6 @@
 //! What an item is written as.
 
-ghost use Rattle.std.specs.Prelude.{◌≡◌, ◌++◌, IfErr, OnOk, true};
+ghost use Rattle.std.specs.Prelude.{◌≡◌, ◌<◌, ◌++◌, length, IfErr, OnOk, true};
 ghost use Rattle.cbor_model.specs.Head.{short};
 ghost use Rattle.cbor_io.specs.Head.{major_number};
 ghost use Rattle.cbor_serde_ser.specs.Document.{string, name_bytes, is_bytes, is_text};
@@ -11,25 +11,22 @@ ghost use Rattle.cbor_serde_ser.specs.declared.reason.Reason.TheVariants.{OutOfM
 
 use crate::float::Encoded;
 use crate::reason::{Reason, Step};
+use crate::written::{Appended, Written};
 use cbor_io::head::Major;
 use cbor_serde_options::number_of;
-use std::alloc::AllocError;
-
-/// What a step that only allocates returns.
-pub(crate) type Appended = std::result::Result<(), AllocError>;
 
 /// Appends a piece.
 #[inline(always)]
-pub(crate) fn put(out: &mut Vec<u8>, piece: &[u8]) -> Appended
-    ensures { OnOk result (out.new.items ≡ out.old.items ++ piece.now) }
+pub(crate) fn put(out: &mut Written, piece: &[u8]) -> Appended
+    ensures { OnOk result (out.new ≡ out.old ++ piece.now) }
 {
-    out.extend_from_slice(piece)
+    out.put(piece)
 }
 
 /// Appends the shortest head of the major type with this number.
 #[inline(always)]
-pub(crate) fn put_head(out: &mut Vec<u8>, major: Major, n: u64) -> Appended
-    ensures { OnOk result (out.new.items ≡ out.old.items ++ short (major_number major) n) }
+pub(crate) fn put_head(out: &mut Written, major: Major, n: u64) -> Appended
+    ensures { OnOk result (out.new ≡ out.old ++ short (major_number major) n) }
 {
     let first = major.number() * 32;
     if n < 24 {
@@ -68,37 +65,48 @@ fn holds_text(text: &str)
 
 /// Appends a string: its head, and what it holds.
 #[inline(always)]
-pub(crate) fn put_string(out: &mut Vec<u8>, major: Major, content: &[u8]) -> Appended
+pub(crate) fn put_string(out: &mut Written, major: Major, content: &[u8]) -> Appended
     ensures content { is_bytes content.now ≡ true }
-    ensures appended { OnOk result
-        (out.new.items ≡ out.old.items ++ string (major_number major) content.now) }
+    ensures appended { OnOk result (out.new ≡ out.old ++ string (major_number major) content.now) }
 {
     holds_bytes(content);
+    if content.len() < 24 {
+        return put_short(out, major, content);
+    }
     put_head(out, major, content.len() as u64)?;
     put(out, content)
 }
 
+// Appends a string whose head is one byte.
+#[inline(always)]
+fn put_short(out: &mut Written, major: Major, content: &[u8]) -> Appended
+    requires { length content.now < 24 }
+    ensures { OnOk result (out.new ≡ out.old ++ string (major_number major) content.now) }
+{
+    out.put_behind(major.number() * 32 + content.len() as u8, content)
+}
+
 /// Appends a text.
-pub(crate) fn put_text(out: &mut Vec<u8>, text: &str) -> Appended
+pub(crate) fn put_text(out: &mut Written, text: &str) -> Appended
     ensures content { is_text text.now ≡ true }
-    ensures appended { OnOk result (out.new.items ≡ out.old.items ++ string 3 text.now) }
+    ensures appended { OnOk result (out.new ≡ out.old ++ string 3 text.now) }
 {
     put_text_inline(out, text)
 }
 
 // The same where the text is mostly a name of the program: its head is then known when it's compiled.
 #[inline(always)]
-fn put_text_inline(out: &mut Vec<u8>, text: &str) -> Appended
+fn put_text_inline(out: &mut Written, text: &str) -> Appended
     ensures content { is_text text.now ≡ true }
-    ensures appended { OnOk result (out.new.items ≡ out.old.items ++ string 3 text.now) }
+    ensures appended { OnOk result (out.new ≡ out.old ++ string 3 text.now) }
 {
     holds_text(text);
     put_string(out, Major::TextString, text.as_bytes())
 }
 
 /// Appends a whole number that CBOR stores, or refuses another.
-pub(crate) fn put_integer(out: &mut Vec<u8>, v: i128) -> Step<()>
-    ensures appended { OnOk result (Stored v out.old.items out.new.items) }
+pub(crate) fn put_integer(out: &mut Written, v: i128) -> Step<()>
+    ensures appended { OnOk result (Stored v out.old out.new) }
     ensures refused { IfErr result (MayNot (stored v)) }
 {
     if let Ok(n) = u64::try_from(v) {
@@ -113,8 +121,8 @@ pub(crate) fn put_integer(out: &mut Vec<u8>, v: i128) -> Step<()>
 }
 
 /// Appends a float.
-pub(crate) fn put_float(out: &mut Vec<u8>, v: Encoded) -> Appended
-    ensures { OnOk result (out.new.items ≡ out.old.items ++ encoded_bytes v) }
+pub(crate) fn put_float(out: &mut Written, v: Encoded) -> Appended
+    ensures { OnOk result (out.new ≡ out.old ++ encoded_bytes v) }
 {
     match v {
         Encoded::Half(bits) => {
@@ -134,10 +142,10 @@ pub(crate) fn put_float(out: &mut Vec<u8>, v: Encoded) -> Appended
 
 /// Appends a name, or the integer that it is where that is asked for.
 #[inline(always)]
-pub(crate) fn put_name(out: &mut Vec<u8>, name: &str, as_integer: bool) -> Step<()>
+pub(crate) fn put_name(out: &mut Written, name: &str, as_integer: bool) -> Step<()>
     ensures content { is_text name.now ≡ true }
     ensures appended { OnOk result
-        (out.new.items ≡ out.old.items ++ name_bytes as_integer name.now) }
+        (out.new ≡ out.old ++ name_bytes as_integer name.now) }
     ensures refused { IfErr result (λ why. why ≡ OutOfMemory) }
 {
     if as_integer {
@@ -149,9 +157,9 @@ pub(crate) fn put_name(out: &mut Vec<u8>, name: &str, as_integer: bool) -> Step<
 
 // Appends the integer that a name is, or the name where it is none.
 #[inline(never)]
-fn put_key(out: &mut Vec<u8>, name: &str) -> Step<()>
+fn put_key(out: &mut Written, name: &str) -> Step<()>
     ensures content { is_text name.now ≡ true }
-    ensures appended { OnOk result (out.new.items ≡ out.old.items ++ name_bytes true name.now) }
+    ensures appended { OnOk result (out.new ≡ out.old ++ name_bytes true name.now) }
     ensures refused { IfErr result (λ why. why ≡ OutOfMemory) }
 {
     holds_text(name);

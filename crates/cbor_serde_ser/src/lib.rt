@@ -13,6 +13,7 @@ mod log;
 mod logged;
 mod reason;
 mod writer;
+mod written;
 
 pub use event_error::EventError;
 pub use logged::Logged;

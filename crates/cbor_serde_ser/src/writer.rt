@@ -15,6 +15,7 @@ use crate::bytes::{put, put_head, put_name};
 use crate::event_error::EventError;
 use crate::level::Level;
 use crate::reason::{Reason, Step};
+use crate::written::Written;
 use cbor_io::head::Major;
 use cbor_serde_options::{Options, number_of};
 use serde::{Case, NameKind};
@@ -27,7 +28,7 @@ const MAX_LEVELS: usize = 127;
 #[derive(Drop)]
 pub(crate) struct Writer {
     pub(crate) alloc: Global,
-    pub(crate) out: Vec<u8>,
+    pub(crate) out: Written,
     pub(crate) options: Options,
     // The innermost of what is open, and those around it, the nearest last.
     pub(crate) level: Level,
@@ -48,7 +49,7 @@ impl Writer {
     {
         Writer {
             alloc,
-            out: Vec::new(alloc),
+            out: Written::new(alloc),
             options,
             level: Level::document(),
             outer: Vec::new(alloc),
@@ -62,7 +63,7 @@ impl Writer {
     #[cold]
     #[inline(never)]
     pub(crate) fn refusal(&self, reason: Reason) -> EventError
-        ensures { IsEventErrorFor reason (length self.now.out.items) result }
+        ensures { IsEventErrorFor reason (length self.now.out) result }
     {
         EventError::of(self.alloc, reason, self.out.len() as u64)
     }
@@ -81,7 +82,7 @@ impl Writer {
             return Err(Reason::NotWhole);
         }
         let Writer { out, .. } = self;
-        Ok(out)
+        Ok(out.into_vec())
     }
 
     // Writes the head that waits, where what comes is no field.
@@ -249,7 +250,7 @@ impl Writer {
     fn put_spelled(&mut self, name: &str, case: Case, kind: NameKind, as_integer: bool) -> Step<()>
         ensures text { OnOk result (is_text (spelled case kind name.now) ≡ true) }
         ensures appended { OnOk result (state self.new ≡ record (state self.old) {
-          bytes = self.old.out.items ++ name_bytes as_integer (spelled case kind name.now);
+          bytes = self.old.out ++ name_bytes as_integer (spelled case kind name.now);
         }) }
         ensures options { self.new.options ≡ self.old.options }
         ensures refused { IfErr result (λ why. why ≡ OutOfMemory) }
