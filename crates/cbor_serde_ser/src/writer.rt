@@ -193,7 +193,8 @@ impl Writer {
         if MAX_LEVELS <= self.outer.len() {
             return Err(Reason::TooDeep);
         }
-        self.outer.push(self.level)?;
+        self.outer.reserve(1)?;
+        self.outer.push_reserved(self.level);
         self.level = Level::open(left, is_map);
         Ok(())
     }

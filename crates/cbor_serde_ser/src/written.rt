@@ -73,8 +73,9 @@ impl Written {
         if self.block.len() - self.len < piece.len() {
             return self.put_anew(piece);
         }
+        let end = self.len + piece.len();
         copy_to(self.block.as_mut_slice(), self.len, piece);
-        self.len += piece.len();
+        self.len = end;
         Ok(())
     }
 
@@ -87,9 +88,10 @@ impl Written {
             return self.put_both(first, piece);
         }
         let at = self.len + 1;
-        copy_to(self.block.as_mut_slice(), self.len, &[first]);
+        let end = at + piece.len();
+        self.block[self.len] = first;
         copy_to(self.block.as_mut_slice(), at, piece);
-        self.len = at + piece.len();
+        self.len = end;
         Ok(())
     }
 
