@@ -16,9 +16,9 @@ impl<T: Drop> AtMostTwelveParts for Newtype<T> {
     ghost count = { 0 };
 }
 
-/// A variant of several parts, as `Tuple<(u64, u8)>`.
+/// A variant of several parts, at most eight, as `Tuple<(u64, u8)>`.
 #[derive(Debug, PartialEq, Drop)]
-pub struct Tuple<F>(pub F);
+pub struct Tuple<F: AtMostEightParts>(pub F);
 
 /// A variant of named fields, as `Struct<PointFields>`.
 #[derive(Drop)]
@@ -216,6 +216,28 @@ impl<
 > AtMostTwelveParts for (A, B, C, D, E, F, G, H, I, J, K, L) {
     ghost count = { 12 };
 }
+
+/// The parts of a variant that have no names, a tuple of one to eight.
+pub trait AtMostEightParts: AtMostTwelveParts {}
+
+impl<A: Drop> AtMostEightParts for (A,) {}
+
+impl<A: Drop, B: Drop> AtMostEightParts for (A, B) {}
+
+impl<A: Drop, B: Drop, C: Drop> AtMostEightParts for (A, B, C) {}
+
+impl<A: Drop, B: Drop, C: Drop, D: Drop> AtMostEightParts for (A, B, C, D) {}
+
+impl<A: Drop, B: Drop, C: Drop, D: Drop, E: Drop> AtMostEightParts for (A, B, C, D, E) {}
+
+impl<A: Drop, B: Drop, C: Drop, D: Drop, E: Drop, F: Drop> AtMostEightParts
+    for (A, B, C, D, E, F) {}
+
+impl<A: Drop, B: Drop, C: Drop, D: Drop, E: Drop, F: Drop, G: Drop> AtMostEightParts
+    for (A, B, C, D, E, F, G) {}
+
+impl<A: Drop, B: Drop, C: Drop, D: Drop, E: Drop, F: Drop, G: Drop, H: Drop> AtMostEightParts
+    for (A, B, C, D, E, F, G, H) {}
 
 /// A struct or an enum that is written and read by a description of its parts.
 ///

@@ -16,7 +16,7 @@ use crate::serializer::Serializer;
 use crate::tuples::SerializeTuple;
 use cbor_io::error::{Error, Result};
 use cbor_io::write::Write;
-use cbor_parts::{FieldLabels, FieldNames, Labelled, Newtype, Schema, Tuple};
+use cbor_parts::{AtMostEightParts, FieldLabels, FieldNames, Labelled, Newtype, Schema, Tuple};
 
 /// The content of a variant, to be written: `()`, [`Newtype`] of a reference, [`Tuple`] of a tuple
 /// of references, or [`NamedFields`].
@@ -73,7 +73,7 @@ impl<'a, T: Serialize> SerializeVariant for Newtype<&'a T> {
     }
 }
 
-impl<F: SerializeTuple> SerializeVariant for Tuple<F> {
+impl<F: SerializeTuple + AtMostEightParts> SerializeVariant for Tuple<F> {
     ghost document = { λ i n v. tuple_variant i n (F.documents v.0) };
 
     ghost is_named = { λ u. Unit {0} };

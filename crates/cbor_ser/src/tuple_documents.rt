@@ -1,7 +1,7 @@
 //! The documents of tuples: of the fields of a struct, and of the parts of a variant.
 
 use crate::serialize::Serialize;
-use cbor_parts::{AtMostTwelveParts, Optional, OrDefault};
+use cbor_parts::{AtMostEightParts, AtMostTwelveParts, Optional, OrDefault};
 
 /// What a field of a struct is that has a document: a type that is written; [`OrDefault`] of one,
 /// which is written too; or [`Optional`] of one, which is left out where it is None.
@@ -41,7 +41,7 @@ pub trait FieldsDocument: AtMostTwelveParts {
 }
 
 /// The parts of a variant that have documents: a tuple.
-pub trait TupleDocuments: AtMostTwelveParts {
+pub trait TupleDocuments: AtMostEightParts {
     ghost use Rattle.cbor_model.specs.Document.{Docs};
 
     // What the parts are written as.
