@@ -39,6 +39,18 @@ count_ahead b t e within =
 pub none_left : (b : List ℕ) (t f : ℕ) → f ≤ t → drop t (take f b) ≡ []
 none_left b t f ends = drop_all t (take f b) (omega (arith, length-take f b))
 
+-- what was read behind the first f bytes, which stayed, comes after those that are left
+pub read_on : (b c : List ℕ) (t f n : ℕ) → t ≤ f → take f c ≡ take f b
+    → drop t (take (f + n) c) ≡ drop t (take f b) ++ take n (drop f c)
+read_on b c t f n order same =
+    let all : t + (f - t) ≡ f = omega arith in
+    let left : take (f - t) (drop t c) ≡ drop t (take f b) =
+    sym (drop-take t (f - t) c) ∙ ap (λ m. drop t (take m c)) all ∙ ap (drop t) same in
+    taken_apart c t (f - t) (f + n) (omega arith)
+    ∙ ap (λ l. l ++ drop (t + (f - t)) (take (f + n) c)) left
+    ∙ ap (λ m. drop t (take f b) ++ drop m (take (f + n) c)) all
+    ∙ ap (λ l. drop t (take f b) ++ l) (drop-take f n c)
+
 -- ---- and the reader
 
 pub prepended : (rem : Option (List ℕ)) (xs ys p : List ℕ) → xs ≡ p ++ ys
@@ -53,6 +65,14 @@ kept_on None new xs ys e f h = tt
 kept_on (Some r) None xs ys e f h = absurd h
 kept_on (Some r) (Some left) xs ys e f h =
     ap (λ l. l ++ left) f ∙ h ∙ sym (ap (λ l. l ++ r) e)
+
+-- some came behind those that were read before
+pub kept_behind : (rem new : Option (List ℕ)) (xs ys more : List ℕ) → ys ≡ xs ++ more
+    → Consumes rem new more → Keeps (prepend_known xs rem) (prepend_known ys new)
+kept_behind None new xs ys more e h = tt
+kept_behind (Some r) None xs ys more e h = absurd h
+kept_behind (Some r) (Some left) xs ys more e h =
+    ap (λ l. l ++ left) e ∙ append_assoc xs more left ∙ sym (ap (λ l. xs ++ l) h)
 
 -- the bytes at hand are the front
 pub front_ahead : (rem : Option (List ℕ)) (xs hand more : List ℕ) → xs ≡ hand ++ more

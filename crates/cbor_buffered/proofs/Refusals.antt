@@ -2,13 +2,14 @@
 use Rattle.std.proofs.Common.{◌≡◌, ℕ, ◌+◌, ◌-◌, ◌^◌, ◌<◌, ◌≤◌, List, [], length}
 use Rattle.std.proofs.Common.{Option, Some, None, IfSome}
 use Rattle.std.proofs.Common.{drop, take}
-use Rattle.std.proofs.Common.{refl, sym, ap, subst, ◌∙◌, add-zero, arith}
-use Rattle.std.proofs.KnownBytes.{Consumes-nil, Consumes-kept, Keeps-refl}
+use Rattle.std.proofs.Common.{sym, ap, subst, ◌∙◌, add-zero, arith}
+use Rattle.std.proofs.KnownBytes.{Consumes-nil, Consumes-kept}
 use Rattle.cbor_io.specs.ReadError.{why, place, HasNoPlace}
 use Rattle.std.specs.declared.io.Error.{Error}
 use Rattle.cbor_io.specs.declared.read_error.ReadError.{ReadError}
 use Rattle.cbor_read.specs.Source.{Input, TookKept, TookSome, Stays, IsOfSource}
 use Rattle.cbor_read.specs.Source.{RefusedByte, reader_refusals}
+pub use Rattle.cbor_read.proofs.facts.Sources.{stays_same, stays_then}
 use Rattle.cbor_io.specs.declared.read_error.ReadErrorCode.TheVariants.{LengthOutOfRange}
 use Rattle.cbor_io.specs.declared.read_error.ReadErrorCode.TheVariants.{Io}
 use Rattle.cbor_io.specs.declared.read_error.ReadErrorCode.TheVariants.{EofWhileParsingValue}
@@ -27,9 +28,6 @@ pub stays_some : (s t : Input) → Stays s t → TookSome s t
 stays_some s t w =
     let none = stays_kept s t w in
     record { some = []; bytes = none.bytes; count = none.count; room = none.room }
-
-pub stays_same : (s : Input) → Stays s s
-stays_same s = record { bytes = Keeps-refl s.to_come; count = refl; room = refl; kept = refl }
 
 -- the reader reported a fault
 pub fault_byte : (s t : Input) (fault : Error) (e : ReadError) → why e ≡ Io fault → place e ≡ 0

@@ -1,7 +1,7 @@
 //! The blocks that a source reads ahead into: one in memory of its own, and one that stands in the
 //! source itself.
 
-ghost use Rattle.std.specs.Prelude.{◌≡◌, ◌<◌, List, ℕ, length, IfOk};
+ghost use Rattle.std.specs.Prelude.{◌≡◌, ◌<◌, ◌≤◌, List, ℕ, length, take, drop, IfOk};
 ghost use Rattle.std.specs.Io.{ReadsAtMost};
 ghost use Rattle.std.specs.Io.KnownBytes.{ReadConsumes};
 
@@ -13,6 +13,9 @@ const HEAP: usize = 8192;
 
 // How many bytes a block in the source holds.
 const INLINE: usize = 1024;
+
+// How many bytes a block has room for behind what it has, where more is read there.
+pub(super) const ROOM: usize = 512;
 
 /// A block of bytes, which a reader fills from the front.
 pub trait Block {
@@ -31,6 +34,15 @@ pub trait Block {
         ensures bound { ReadsAtMost result (held self.new) }
         ensures bytes { ReadConsumes (R.remaining reader.old) (R.remaining reader.new) result
             (held self.new) };
+
+    /// Reads behind its first `at` bytes, by one call of the reader, and returns how many bytes
+    /// came. The first stay.
+    fn read_behind<R: io::Read>(&mut self, at: usize, reader: &mut R) -> io::Result<usize>
+        requires { at ≤ size }
+        ensures kept { take at (held self.new) ≡ take at (held self.old) }
+        ensures bound { ReadsAtMost result (drop at (held self.new)) }
+        ensures bytes { ReadConsumes (R.remaining reader.old) (R.remaining reader.new) result
+            (drop at (held self.new)) };
 
     ghost whole: { (b : Self) → length (held b) ≡ size };
 
@@ -76,6 +88,11 @@ impl Block for HeapBlock {
         reader.read(&mut self.bytes)
     }
 
+    #[inline(always)]
+    fn read_behind<R: io::Read>(&mut self, at: usize, reader: &mut R) -> io::Result<usize> {
+        reader.read(&mut self.bytes[at..])
+    }
+
     ghost whole = { λ b. b.whole };
 
     ghost some = { Prim.search rules };
@@ -110,6 +127,11 @@ impl Block for InlineBlock {
     #[inline(always)]
     fn read_from<R: io::Read>(&mut self, reader: &mut R) -> io::Result<usize> {
         reader.read(&mut self.bytes)
+    }
+
+    #[inline(always)]
+    fn read_behind<R: io::Read>(&mut self, at: usize, reader: &mut R) -> io::Result<usize> {
+        reader.read(&mut self.bytes[at..])
     }
 
     ghost whole = { λ b. b.whole };

@@ -5,7 +5,7 @@ ghost use Rattle.std.specs.Prelude.{IfSome, OnOk, OnErr, IfOk, IfErr};
 ghost use Rattle.std.specs.Io.KnownBytes.{prepend_known};
 ghost use Rattle.std.specs.Str.Lossy.{utf8_valid_len};
 
-use super::blocks::{Block, HeapBlock, InlineBlock};
+use super::blocks::{Block, HeapBlock, InlineBlock, ROOM};
 use cbor_io::utf8::from_utf8;
 use cbor_read::{EitherLifetime, Offset, Read, ReadError, ReadErrorCode, Source};
 use std::alloc::Global;
@@ -16,10 +16,11 @@ type Result<T> = std::result::Result<T, ReadError>;
 
 /// The bytes that a reader gives, read ahead in blocks. What is read is lent until the next call.
 ///
-/// Where a byte is wanted and none is left, it asks its reader for a block, by one call, and goes
-/// on with what that call gave: [`IoRead`](cbor_read::IoRead) asks for each head and string. Use it
-/// for whole files, and for sockets. A block is 8 KiB of memory, which [`new`](BufferedRead::new)
-/// takes, or 1 KiB in the source itself ([`inline`](BufferedRead::inline), an [`InlineBlock`]).
+/// Where a byte is wanted that isn't there, it asks its reader for a block, or for the rest of one,
+/// by one call, and goes on with what that call gave: [`IoRead`](cbor_read::IoRead) asks for each
+/// head and string. Use it for whole files, and for sockets. A block is 8 KiB of memory, which
+/// [`new`](BufferedRead::new) takes, or 1 KiB in the source itself
+/// ([`inline`](BufferedRead::inline), an [`InlineBlock`]).
 ///
 /// Up to a block that nobody asked for is gone from the reader. `into_inner` hands it back; a
 /// `Deserializer` over this source loses it with it. Take [`IoRead`](cbor_read::IoRead) where
@@ -56,6 +57,8 @@ pub struct BufferedRead<R, B: Block = HeapBlock> {
     // the offset of the block's first byte
     start: u64,
     buffer: Vec<u8>,
+    // what the reader reported behind the block's bytes
+    fault: Option<io::Error>,
     ghost ordered: { taken ≤ end },
     ghost counted: { end ≤ filled },
     ghost within: { filled ≤ B.size },
@@ -116,7 +119,8 @@ impl<R: io::Read> BufferedRead<R> {
     }
 
     /// The reader, and the bytes that were read ahead of it and not taken: these come first, and
-    /// then the reader's. What was joined in the buffer is dropped.
+    /// then the reader's. What was joined in the buffer is dropped, and so is a fault of the reader
+    /// that was met behind these bytes.
     ///
     /// ```rust
     /// let mut source = BufferedRead::new(alloc, b"\x00\x01\x02".as_slice())?;
@@ -164,7 +168,7 @@ impl<R: io::Read> BufferedRead<R, InlineBlock> {
 }
 
 impl<R: io::Read, B: Block> BufferedRead<R, B> {
-    ghost use Rattle.std.specs.Prelude.{None, Ok, ◌≢◌};
+    ghost use Rattle.std.specs.Prelude.{None, Ok, true, ◌≢◌};
     ghost use Rattle.cbor_io.specs.ReadError.{why};
     ghost use Rattle.cbor_io.specs.declared.read_error.ReadErrorCode.TheVariants.{OutOfMemory};
     ghost use Rattle.cbor_read.specs.Source.{reader_input, Buffered, Stays};
@@ -188,11 +192,12 @@ impl<R: io::Read, B: Block> BufferedRead<R, B> {
             filled: 0,
             start: offset,
             buffer: Vec::new(alloc),
+            fault: None,
         }
     }
 
-    // Reads a block, where no byte of the last is left. The offset may be too high to count all
-    // that came.
+    // Reads a block, where no byte of the last is left, or returns the fault that was kept. The
+    // offset may be too high to count all that came.
     fn read_block(&mut self) -> Result<()>
         requires { self.old.filled ≤ self.old.taken }
         ensures stays { OnOk result (Stays (input_of_buffered R.remaining self.old)
@@ -202,6 +207,9 @@ impl<R: io::Read, B: Block> BufferedRead<R, B> {
         ensures err { IfErr result (RefusedByte reader_refusals
             (input_of_buffered R.remaining self.old) (input_of_buffered R.remaining self.new)) }
     {
+        if let Some(fault) = self.fault.take() {
+            return Err(ReadError::from(fault));
+        }
         let count = self.block.read_from(&mut self.reader)?;
         self.start += self.end as u64;
         self.end = count.min((u64::MAX - self.start) as usize);
@@ -229,6 +237,45 @@ impl<R: io::Read, B: Block> BufferedRead<R, B> {
             return Err(ReadError::at(ReadErrorCode::LengthOutOfRange, u64::MAX));
         }
         Ok(())
+    }
+
+    // Begins the block anew, where no byte of it is left.
+    #[inline(always)]
+    fn restart(&mut self)
+        ensures { Stays (input_of_buffered R.remaining self.old)
+            (input_of_buffered R.remaining self.new) }
+    {
+        if self.taken == self.filled {
+            self.start += self.taken as u64;
+            self.taken = 0;
+            self.end = 0;
+            self.filled = 0;
+        }
+    }
+
+    // Reads behind what the block has, by one call, and returns whether any came; where there is
+    // little room, none is asked for. A fault is kept.
+    #[inline(always)]
+    fn extend(&mut self) -> bool
+        ensures stays { Stays (input_of_buffered R.remaining self.old)
+            (input_of_buffered R.remaining self.new) }
+        ensures more { result ≡ true → self.old.filled < self.new.filled }
+    {
+        let room = self.block.bytes().len() - self.filled;
+        if room < ROOM || self.end < self.filled || self.fault.is_some() {
+            return false;
+        }
+        match self.block.read_behind(self.filled, &mut self.reader) {
+            Ok(count) => {
+                self.filled += count;
+                self.end = self.filled.min((u64::MAX - self.start) as usize);
+                count > 0
+            }
+            Err(fault) => {
+                self.fault = Some(fault);
+                false
+            }
+        }
     }
 
     // Sees to it that a byte is in the block, if any is to come.
@@ -322,6 +369,17 @@ impl<R: io::Read, B: Block> Source for BufferedRead<R, B> {
     #[inline(always)]
     fn advance(&mut self, n: usize) {
         self.taken += n;
+    }
+
+    #[inline(always)]
+    fn lacks(&self, n: usize) -> bool {
+        self.end < self.taken.saturating_add(n)
+    }
+
+    #[inline(always)]
+    fn gather(&mut self, n: usize) {
+        self.restart();
+        'calls: while self.end - self.taken < n && self.extend() {}
     }
 
     fn clear_buffer(&mut self) {

@@ -1,20 +1,19 @@
--- Floats whose first byte is at hand: of 32 bits (250), and of 64 (251).
-use Rattle.std.proofs.Common.{◌≡◌, ◌∙◌, ℕ, Bool, List, Some, Ok, take, slice_get, refl}
-use Rattle.std.specs.Int.{Width, w32, w64}
+-- Floats that are whole at hand: of 32 bits (250), and of 64 (251).
+use Rattle.std.proofs.Common.{◌≡◌, ◌∙◌, ◌+◌, ◌-◌, ℕ, suc, List, [], ◌∷◌, ◌++◌, length, take, drop, Some, Ok, slice_get, refl, sym, ap, subst, arith}
+use Rattle.std.proofs.lemmas.List.{length-take-le, take_all}
+use Rattle.std.specs.Array.{IsFirstChunk}
+use Rattle.std.specs.Int.{Width, w32, w64, byte_len, from_be_bytes}
 use Rattle.cbor_model.specs.Head.{HeadWidth, no_bytes}
 use Rattle.cbor_model.specs.Reader.{◌>>=◌, byte_at, number_at}
 use Rattle.cbor_value.specs.declared.Float.TheVariants.{Single, Double}
-use Rattle.cbor_io.specs.declared.read_error.ReadError.{ReadError}
-use Rattle.cbor_io.specs.declared.read_error.ReadErrorCode.{ReadErrorCode}
 use Rattle.cbor_read.specs.Source.{Input, TookKept}
-use Rattle.cbor_decode.specs.Gives.{Step, Stopped}
+use Rattle.cbor_decode.specs.Gives.{Step}
 use Rattle.cbor_decode.specs.Heads.{head_at, opening_at, simple_head}
 use Rattle.cbor_decode.specs.declared.head.Head.{Head}
 use Rattle.cbor_decode.specs.declared.head.Head.TheVariants.{Float}
-use Rattle.cbor_decode.specs.declared.refusal.Refused.{Refused}
-use Rattle.cbor_decode.proofs.SourceCalls.{hand_step}
 use Rattle.cbor_decode.proofs.Heads.{first_simple}
-use Rattle.cbor_decode.proofs.Steps.{step_then, stopped_then}
+use Rattle.cbor_decode.proofs.Steps.{kept_step, step_map}
+use Rattle.cbor_decode.proofs.WholeHeads.{number_front}
 
 -- a number of this width follows the byte, which says what it is
 abbrev Begins : ℕ → Width → (ℕ → Head) → Type 0
@@ -28,17 +27,22 @@ pub double_begins : Begins 251 w64 (λ bits. Float (Double bits))
 unfolding simple_head
 double_begins bs = first_simple 251 bs refl ∙ refl
 
-module _ (first : ℕ) (w : Width) (says : ℕ → Head) (begins : Begins first w says) (s m : Input) (hand : List ℕ) (front : slice_get hand 0 ≡ Some first) (took : TookKept s m (take 1 hand)) where
-  taken : Step s m (λ l bs rest. byte_at bs ≡ Ok (first, rest))
-  taken = hand_step s m hand first front took
+some_is : (a b : ℕ) → Some a ≡ Some b → a ≡ b
+some_is a b e = cc
 
-  pub number_step : (t : Input) (n : ℕ) → Step m t (λ l bs rest. number_at w bs ≡ Ok (n, rest))
-      → Step s t (λ l bs rest. (v : HeadWidth) × (opening_at bs ≡ Ok ((v, says n), rest)))
-  number_step t n number =
-      step_then s m t (λ l bs rest. byte_at bs ≡ Ok (first, rest)) (λ l bs rest. number_at w bs ≡ Ok (n, rest)) (λ l bs rest. (v : HeadWidth) × (opening_at bs ≡ Ok ((v, says n), rest)))
-      (λ l bs mid rest here there. (no_bytes, rw (here, begins mid, there) refl)) taken number
-
-  pub number_stops : {t : Input} (allowed : ReadErrorCode → Bool) (kept : ReadError) (r : Refused) → Stopped allowed (λ l. number_at w) m t kept r → Stopped allowed (λ l. opening_at) s t kept r
-  number_stops allowed kept r stopped =
-      stopped_then allowed (λ l. number_at w) (λ l. opening_at) s m kept r (λ l bs rest. byte_at bs ≡ Ok (first, rest))
-      (λ l bs mid f here fault. rw (here, begins mid, fault) refl) taken stopped
+-- the byte and the number were at hand, and taken
+pub float_step : (first : ℕ) (w : Width) (says : ℕ → Head) → Begins first w says → (s t : Input) (hand bytes : List ℕ) (n : ℕ) → slice_get hand 0 ≡ Some first
+    → IsFirstChunk (take (length hand - 1) (drop 1 hand)) bytes (byte_len w) → n ≡ from_be_bytes w bytes → TookKept s t (take (1 + byte_len w) hand)
+    → Step s t (λ l bs rest. (v : HeadWidth) × (opening_at bs ≡ Ok ((v, says n), rest)))
+unfolding byte_at
+float_step first w says begins s t [] bytes n at chunk number took = absurd cc
+float_step first w says begins s t (x ∷ xs) bytes n at chunk number took =
+    let k = byte_len w in
+    let all : take (length (x ∷ xs) - 1) xs ≡ xs = take_all (length (x ∷ xs) - 1) xs (omega arith) in
+    let behind : IsFirstChunk xs bytes k = subst (λ (ys : List ℕ). IsFirstChunk ys bytes k) all chunk in
+    let len : length bytes ≡ k = ap length behind.same ∙ length-take-le k xs behind.enough in
+    let one : 1 + k ≡ suc k = omega arith in
+    let taken : TookKept s t (first ∷ take k xs) = subst (λ (b : ℕ). TookKept s t (b ∷ take k xs)) (some_is x first at) (subst (λ (m : ℕ). TookKept s t (take m (x ∷ xs))) one took) in
+    let read : (rest : List ℕ) → number_at w (take k xs ++ rest) ≡ Ok (n, rest) = λ rest. rw (sym behind.same, number) (number_front w bytes rest len) in
+    step_map s t (λ l bs rest. bs ≡ (first ∷ take k xs) ++ rest) (λ l bs rest. (v : HeadWidth) × (opening_at bs ≡ Ok ((v, says n), rest)))
+    (λ l bs rest front. (no_bytes, rw (front, begins (take k xs ++ rest), read rest) refl)) (kept_step s t (first ∷ take k xs) taken)

@@ -37,7 +37,7 @@ module _ (low : ℕ) (bs : List ℕ) where
   unfolding number_behind
   at_27 is = rw is refl
 
-number_front : (w : Width) (p rest : List ℕ) → length p ≡ byte_len w → number_at w (p ++ rest) ≡ Ok (from_be_bytes w p, rest)
+pub number_front : (w : Width) (p rest : List ℕ) → length p ≡ byte_len w → number_at w (p ++ rest) ≡ Ok (from_be_bytes w p, rest)
 number_front w p rest len =
     let enough : byte_len w ≤ length (p ++ rest) = omega (arith, len, length-append p rest) in
     rw (le-ltb (length (p ++ rest)) (byte_len w) enough, sym len, take-append_seam p rest, drop-append_seam p rest) refl

@@ -100,14 +100,6 @@ HeadGives refusals read s t kept (Ok h) =
     Step s t (λ l bs rest. (w : HeadWidth) × (read bs ≡ Ok ((w, h), rest)))
 HeadGives refusals read s t kept (Err r) = Stopped refusals (λ l. read) s t kept r
 
--- the head that says a number in this way was read; or none was, and nothing was taken; or why not
-abbrev pub NumberGives : (ℕ → Head) → (ReadErrorCode → Bool) → Input → Input → ReadError
-    → Result (Option ℕ) Refused → Type 0
-NumberGives says refusals s t kept (Ok (Some n)) =
-    HeadGives refusals opening_at s t kept (Ok (says n))
-NumberGives says refusals s t kept (Ok None) = t ≡ s
-NumberGives says refusals s t kept (Err r) = HeadGives refusals opening_at s t kept (Err r)
-
 -- ---- what follows a head
 
 -- the length of an array or a map with a head of this width

@@ -1,5 +1,5 @@
-//! Heads that are whole at hand, of numbers, of bools, and of what is short: they are known by the
-//! bytes themselves, without a refusal. All others are for [`Decoder::head`].
+//! Heads that are whole at hand, of numbers, floats, bools, and of what is short: they are known by
+//! the bytes themselves, without a refusal. All others are for [`Decoder::head`].
 
 ghost use Rattle.std.specs.Prelude.{◌≡◌, ◌≤◌, ◌++◌, List, ℕ, length, take, MatchOption, IfSome};
 ghost use Rattle.std.specs.Prelude.{OnSome, Ok, Some};
@@ -10,6 +10,8 @@ ghost use Rattle.cbor_decode.specs.declared.cursor.Remaining.TheVariants.{Counte
 ghost use Rattle.cbor_decode.specs.declared.head.Head.TheVariants.{Unsigned, Negative, Text, Array};
 ghost use Rattle.cbor_decode.specs.declared.head.Head.TheVariants.{Map};
 ghost use Rattle.cbor_decode.specs.declared.head.Head.TheVariants.{Bool as BoolHead};
+ghost use Rattle.cbor_decode.specs.declared.head.Head.TheVariants.{Float as FloatHead};
+ghost use Rattle.cbor_value.specs.declared.Float.TheVariants.{Single, Double};
 ghost use Rattle.cbor_decode.specs.Steps as step;
 
 use crate::Decoder;
@@ -93,6 +95,54 @@ impl<R: Source> Decoder<R> {
                     }
                     self.source.advance(1 + behind);
                     Some(n)
+                }
+                None => None,
+            },
+            _ => None,
+        }
+    }
+
+    /// Takes a float of 32 bits and returns its bits. None where another head comes, or too few
+    /// bytes are available; then nothing is taken.
+    #[inline(always)]
+    pub fn single(&mut self) -> Option<u32>
+        ensures read { MatchOption result (R.source self.new.source ≡ R.source self.old.source)
+            (λ bits. HeadGives R.refusals opening_at (R.source self.old.source)
+            (R.source self.new.source) self.new.refusal (Ok (FloatHead (Single bits)))) }
+        ensures taken { OnSome result (step.Advances R.source self.old self.new) }
+        ensures settings { SameSettings self.old self.new }
+    {
+        let ahead = self.source.ahead();
+        match ahead.first().copied() {
+            Some(0xfa) => match ahead[1..].first_chunk() {
+                Some(bytes) => {
+                    let bits = u32::from_be_bytes(*bytes);
+                    self.source.advance(5);
+                    Some(bits)
+                }
+                None => None,
+            },
+            _ => None,
+        }
+    }
+
+    /// Takes a float of 64 bits and returns its bits. None as [`single`](Decoder::single) returns
+    /// it.
+    #[inline(always)]
+    pub fn double(&mut self) -> Option<u64>
+        ensures read { MatchOption result (R.source self.new.source ≡ R.source self.old.source)
+            (λ bits. HeadGives R.refusals opening_at (R.source self.old.source)
+            (R.source self.new.source) self.new.refusal (Ok (FloatHead (Double bits)))) }
+        ensures taken { OnSome result (step.Advances R.source self.old self.new) }
+        ensures settings { SameSettings self.old self.new }
+    {
+        let ahead = self.source.ahead();
+        match ahead.first().copied() {
+            Some(0xfb) => match ahead[1..].first_chunk() {
+                Some(bytes) => {
+                    let bits = u64::from_be_bytes(*bytes);
+                    self.source.advance(9);
+                    Some(bits)
                 }
                 None => None,
             },

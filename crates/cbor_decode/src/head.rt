@@ -1,17 +1,14 @@
 //! Heads: what an item's first bytes say of it (RFC 7049, section 2).
 
-ghost use Rattle.std.specs.Prelude.{◌≡◌, length, IfErr, IfOk, MatchOption, OnErr, OnOk};
-ghost use Rattle.std.specs.Prelude.{OnSome, Ok, Some};
+ghost use Rattle.std.specs.Prelude.{◌≡◌, length, IfErr, OnErr, OnOk};
 ghost use Rattle.std.specs.Int.{w8, w16, w32, w64};
 ghost use Rattle.cbor_model.specs.Reader.{number_at, number_behind};
 ghost use Rattle.cbor_model.specs.Major.{major_of};
 ghost use Rattle.cbor_io.specs.Head.{major_number};
 ghost use Rattle.cbor_decode.specs.Decoder.{SameSettings};
 ghost use Rattle.cbor_decode.specs.Gives.{ReportsNoKey, ReportsNoMemory};
-ghost use Rattle.cbor_decode.specs.Heads.{HeadGives, NumberGives, opening_at, head_at, head_of};
+ghost use Rattle.cbor_decode.specs.Heads.{HeadGives, head_at, head_of};
 ghost use Rattle.cbor_decode.specs.Heads.{simple_head};
-ghost use Rattle.cbor_decode.specs.declared.head.Head.TheVariants.{Float as FloatHead};
-ghost use Rattle.cbor_value.specs.declared.Float.TheVariants.{Single, Double};
 ghost use Rattle.cbor_read.specs.Source.{TookKept, RefusedInto};
 ghost use Rattle.cbor_decode.specs.declared.refusal.Refused.TheVariants.{Kept};
 ghost use Rattle.cbor_decode.specs.Steps as step;
@@ -54,54 +51,6 @@ pub enum Head {
 }
 
 impl<R: Source> Decoder<R> {
-    /// Takes a float of 32 bits and returns its bits. None where another head comes, or no byte is
-    /// available; then nothing is taken.
-    #[inline(always)]
-    pub fn single(&mut self) -> Done<Option<u32>>
-        ensures read { NumberGives (λ bits. FloatHead (Single bits)) R.refusals
-            (R.source self.old.source) (R.source self.new.source) self.new.refusal result }
-        ensures taken { IfOk result
-            (λ bits. OnSome bits (step.Advances R.source self.old self.new)) }
-        ensures no_key { IfErr result (ReportsNoKey self.new.refusal) }
-        ensures memory { IfErr result (ReportsNoMemory self.new.refusal) }
-        ensures settings { SameSettings self.old self.new }
-    {
-        match self.source.ahead().first().copied() {
-            Some(0xfa) => {
-                self.source.advance(1);
-                match self.number_of_4() {
-                    Ok(bits) => Ok(Some(bits)),
-                    Err(refused) => Err(refused),
-                }
-            }
-            _ => Ok(None),
-        }
-    }
-
-    /// Takes a float of 64 bits and returns its bits. None where another head comes, or no byte is
-    /// available; then nothing is taken.
-    #[inline(always)]
-    pub fn double(&mut self) -> Done<Option<u64>>
-        ensures read { NumberGives (λ bits. FloatHead (Double bits)) R.refusals
-            (R.source self.old.source) (R.source self.new.source) self.new.refusal result }
-        ensures taken { IfOk result
-            (λ bits. OnSome bits (step.Advances R.source self.old self.new)) }
-        ensures no_key { IfErr result (ReportsNoKey self.new.refusal) }
-        ensures memory { IfErr result (ReportsNoMemory self.new.refusal) }
-        ensures settings { SameSettings self.old self.new }
-    {
-        match self.source.ahead().first().copied() {
-            Some(0xfb) => {
-                self.source.advance(1);
-                match self.number_of_8() {
-                    Ok(bits) => Ok(Some(bits)),
-                    Err(refused) => Err(refused),
-                }
-            }
-            _ => Ok(None),
-        }
-    }
-
     /// Takes the rest of a head after its first byte.
     #[inline(always)]
     pub fn head(&mut self, first: u8) -> Done<Head>

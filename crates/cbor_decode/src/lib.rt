@@ -15,6 +15,7 @@ mod at_hand;
 pub mod capacity;
 mod cursor;
 mod formats;
+mod gather;
 mod head;
 mod number;
 mod refusal;

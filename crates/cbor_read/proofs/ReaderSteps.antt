@@ -7,7 +7,7 @@ use Rattle.std.proofs.Math.Seq.{take-append-add}
 use Rattle.std.proofs.lemmas.List.{take-append-le}
 use borrow.Rule.Slice.PartMut.{put_mid, post_of}
 use Rattle.std.specs.Io.KnownBytes.{Consumes, Keeps, IsAtEnd}
-use Rattle.std.proofs.KnownBytes.{Consumes-nil, Consumes-trans}
+use Rattle.std.proofs.KnownBytes.{Consumes-nil, Consumes-trans, Keeps-refl, Keeps-trans}
 use Rattle.cbor_io.specs.ReadError.{why, place, HasNoPlace, IsMemory}
 use Rattle.cbor_read.specs.Source.{Input, TookKept, TookSome, Stays, Buffered, TooFew, IsOfSource}
 use Rattle.cbor_read.specs.Source.{RefusedCall, RefusedToBuffer, RefusedInto, RefusedByte}
@@ -73,6 +73,17 @@ first_set b (x ∷ xs) h = refl
 pub first_taken : (s t : Input) (b : ℕ) (xs : List ℕ) → 0 < length xs → TookKept s t (b ∷ [])
     → TookKept s t (take 1 (slice_set xs 0 b))
 first_taken s t b xs h w = subst (TookKept s t) (sym (first_set b xs h)) w
+
+pub stays_same : (s : Input) → Stays s s
+stays_same s = record { bytes = Keeps-refl s.to_come; count = refl; room = refl; kept = refl }
+
+pub stays_then : (s t u : Input) → Stays s t → Stays t u → Stays s u
+stays_then s t u h w = record {
+  bytes = Keeps-trans s.to_come t.to_come u.to_come h.bytes w.bytes;
+  count = w.count ∙ h.count;
+  room = w.room ∙ h.room;
+  kept = w.kept ∙ h.kept;
+}
 
 pub stays_kept : (s t : Input) → Stays s t → TookKept s t []
 stays_kept s t w = record {

@@ -91,6 +91,9 @@ pub trait Offset: Source {
 ///   `discard` or `advance` takes. `ahead` shows as many as cost nothing to show: a source that has
 ///   to ask for its bytes shows none, and its `advance` takes none. A source that lends what `read`
 ///   takes for the input's whole life shows all that is to come.
+/// - `gather` takes nothing either. A source that reads ahead may ask for bytes there, but not
+///   where the n are available. A fault that it meets is kept, and returned once the bytes before
+///   it are taken.
 /// - `next` and `peek` that are refused take nothing, and ask for no memory.
 /// - At the end `next` and `peek` return None. A call that wants n bytes returns
 ///   `EofWhileParsingValue` only where fewer are to come, and at the offset where they end.
@@ -163,6 +166,24 @@ pub trait Source {
         ensures took { TookKept (source self.old) (source self.new)
             (take n (at_hand self.old)) }
         ensures counted { (source self.new).offset < 2 ^ 64 };
+
+    /// Whether fewer than n of the next bytes are available, of a source that may bring more by
+    /// [`gather`](Source::gather). It is false unless a source says otherwise.
+    #[inline(always)]
+    fn lacks(&self, n: usize) -> bool {
+        let _ = n;
+        false
+    }
+
+    /// Tries to make the next n bytes available, which are wanted; they stay. What hinders it is
+    /// for the call that takes them to return. It does nothing unless a source says otherwise.
+    #[inline(always)]
+    #[tactic(auto, using(crate::proofs::ReaderSteps::stays_same))]
+    fn gather(&mut self, n: usize)
+        ensures { Stays (source self.old) (source self.new) }
+    {
+        let _ = n;
+    }
 
     /// Empties the buffer.
     fn clear_buffer(&mut self)

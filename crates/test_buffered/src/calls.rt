@@ -139,6 +139,65 @@ fn hands_back_what_it_read_ahead(rt: HostRuntime) -> Verdict {
     leaves(&rt, alloc, source, &script, (b"de", b"fgh", 1))
 }
 
+const GATHERS: &[Step] = &[
+    Step::Lacks(1, true),
+    Step::Does(Call::Gather(1)),
+    Step::Ahead(b"abc"),
+    Step::Lacks(3, false),
+    Step::Lacks(4, true),
+    // they are at hand
+    Step::Does(Call::Gather(3)),
+    Step::Ahead(b"abc"),
+    Step::Next(Some(b'a')),
+    Step::Does(Call::Gather(3)),
+    Step::Ahead(b"bcdef"),
+    Step::At(1),
+    Step::Does(Call::Gather(9)),
+    Step::Ahead(b"bcdefghijkl"),
+    Step::Read(b"bcdefghijkl"),
+    Step::Does(Call::Gather(1)),
+    Step::Ahead(b"mno"),
+    Step::At(12),
+];
+
+// By five calls, each only where fewer are at hand than are wanted.
+#[test]
+fn gathers_what_is_wanted(rt: HostRuntime) -> Verdict {
+    let alloc = rt.alloc();
+    let source = in_pieces(alloc, b"abcdefghijklmnopqr", 3)?;
+    leaves(&rt, alloc, source, GATHERS, (b"mno", b"pqr", 5))
+}
+
+// Where the input ends, or the block has little room, what is at hand stays so.
+#[test]
+fn gathers_no_more_than_there_is(rt: HostRuntime) -> Verdict {
+    let alloc = rt.alloc();
+    let script = [
+        Step::Next(Some(b'a')),
+        Step::Does(Call::Gather(9)),
+        Step::Ahead(b"bc"),
+        Step::Read(b"bc"),
+        Step::Does(Call::Gather(9)),
+        Step::Next(None),
+        Step::At(3),
+    ];
+    answers(&rt, alloc, b"abc", 2, &script)?;
+    let bytes = long(alloc)?;
+    let script = [
+        Step::Read(part(&bytes, 0, 7990)?),
+        Step::Does(Call::Gather(20)),
+        Step::Ahead(part(&bytes, 7990, 8000)?),
+        Step::Read(part(&bytes, 7990, 8010)?),
+    ];
+    let source = in_pieces(alloc, &bytes, 8000)?;
+    let left = (
+        part(&bytes, 8010, 16_000)?,
+        part(&bytes, 16_000, 20_000)?,
+        2,
+    );
+    leaves(&rt, alloc, source, &script, left)
+}
+
 const PAST: &str = "length out of range at offset 18446744073709551615";
 
 const NO_BYTE_PAST: &[Step] = &[
@@ -148,6 +207,18 @@ const NO_BYTE_PAST: &[Step] = &[
     Step::Refuses(Call::Peek, PAST),
     Step::Refuses(Call::Skip(1), PAST),
     Step::Read(b""),
+];
+
+const GATHERS_PAST: &[Step] = &[
+    Step::Does(Call::Gather(1)),
+    Step::Ahead(b"\x01"),
+    Step::Does(Call::Gather(2)),
+    Step::Ahead(b"\x01"),
+    Step::Next(Some(1)),
+    Step::Does(Call::Gather(1)),
+    Step::Ahead(b""),
+    Step::At(u64::MAX),
+    Step::Refuses(Call::Next, PAST),
 ];
 
 const END: &str = "EOF while parsing a value at offset 18446744073709551615";
@@ -164,6 +235,7 @@ fn counts_no_byte_past_the_last_offset(rt: HostRuntime) -> Verdict {
     let alloc = rt.alloc();
     for (bytes, script, left) in [
         (&b"\x01\x02"[..], NO_BYTE_PAST, &b"\x02"[..]),
+        (b"\x01\x02", GATHERS_PAST, b"\x02"),
         (b"\x01", ENDS_THERE, b""),
     ] {
         let mut source = BufferedRead::at_offset(alloc, bytes, u64::MAX - 1)?;

@@ -52,3 +52,33 @@ fn reports_a_fault_within_a_part(rt: HostRuntime) -> Verdict {
     }
     Ok(())
 }
+
+// It is kept until the bytes before it are taken, and is reported once.
+#[test]
+fn reports_a_fault_that_it_met_ahead(rt: HostRuntime) -> Verdict {
+    for kind in KINDS {
+        let script = [
+            Step::Next(Some(b'a')),
+            Step::Does(Call::Gather(4)),
+            Step::Ahead(b"bc"),
+            // no other call is made of the reader
+            Step::Does(Call::Gather(4)),
+            Step::Ahead(b"bc"),
+            Step::Read(b"bc"),
+            Step::Fails(Call::Next, kind),
+            Step::At(3),
+            Step::Read(b"def"),
+            Step::Next(None),
+        ];
+        fails(&rt, rt.alloc(), kind, &script)?;
+        let script = [
+            Step::Next(Some(b'a')),
+            Step::Does(Call::Gather(4)),
+            Step::Fails(Call::ReadInto, kind),
+            Step::At(3),
+            Step::Read(b"def"),
+        ];
+        fails(&rt, rt.alloc(), kind, &script)?;
+    }
+    Ok(())
+}

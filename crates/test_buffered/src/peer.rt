@@ -1,7 +1,7 @@
 //! A reader that waits for its peer: it isn't asked before the item that came whole is given.
 
 use cbor_buffered::BufferedRead;
-use cbor_de::StreamDeserializer;
+use cbor_de::{Deserialize, Deserializer, StreamDeserializer};
 use cbor_value::Value;
 use std::alloc::Global;
 use std::io;
@@ -78,6 +78,59 @@ fn asks_for_what_an_item_lacks_alone(rt: HostRuntime) -> Verdict {
             let (front, rest) = item.split_at(at);
             asks(&rt, alloc, &[front, rest, item], 2)?;
         }
+    }
+    Ok(())
+}
+
+/// `[[1000000, 24], [1.1], ["IETF"]]`, of examples of RFC 8949, Appendix A.
+const LISTS: &[u8] = &[
+    0x83, 0x82, 0x1a, 0x00, 0x0f, 0x42, 0x40, 0x18, 0x18, 0x81, 0xfb, 0x3f, 0xf1, 0x99, 0x99, 0x99,
+    0x99, 0x99, 0x9a, 0x81, 0x64, 0x49, 0x45, 0x54, 0x46,
+];
+
+type Lists = (Vec<u32>, Vec<f64>, Vec<String>);
+
+fn asks_of_lists(rt: &impl Abort, alloc: Global, messages: &[&[u8]], calls: usize) -> Verdict {
+    let mut peer = Peer { messages, calls: 0 };
+    let mut de = Deserializer::new(alloc, BufferedRead::new(alloc, &mut peer)?);
+    let (numbers, floats, texts) = Lists::deserialize(&mut de)?;
+    drop(de);
+    assert!(rt; numbers.as_slice() == [1_000_000, 24].as_slice());
+    assert!(rt; floats.as_slice() == [1.1].as_slice());
+    assert!(rt; texts.len() == 1 && texts[0].as_str() == "IETF");
+    assert!(rt; peer.calls == calls);
+    Ok(())
+}
+
+// What lists gather is what their items lack: cut at each place, and byte by byte.
+#[test]
+fn gathers_nothing_behind_an_item(rt: HostRuntime) -> Verdict {
+    let alloc = rt.alloc();
+    asks_of_lists(&rt, alloc, &[LISTS, LISTS], 1)?;
+    let mut bytes = Vec::new(alloc);
+    for at in 0..LISTS.len() {
+        let (front, rest) = LISTS.split_at(at);
+        bytes.push(&rest[..1])?;
+        if at > 0 {
+            asks_of_lists(&rt, alloc, &[front, rest, LISTS], 2)?;
+        }
+    }
+    asks_of_lists(&rt, alloc, &bytes, LISTS.len())
+}
+
+// An item that is refused by its first byte: the next isn't wanted.
+#[test]
+fn gathers_nothing_of_what_is_refused(rt: HostRuntime) -> Verdict {
+    let alloc = rt.alloc();
+    for refused in [b"\x81\xf8", b"\x81\x1c", b"\x81\xff"] {
+        let mut peer = Peer {
+            messages: &[refused.as_slice(), b"\x20"],
+            calls: 0,
+        };
+        let mut de = Deserializer::new(alloc, BufferedRead::new(alloc, &mut peer)?);
+        assert!(&rt; <Vec<u32>>::deserialize(&mut de).is_err());
+        drop(de);
+        assert!(&rt; peer.calls == 1);
     }
     Ok(())
 }

@@ -21,6 +21,7 @@ pub enum Call {
     ReadToVec(usize),
     /// Into a place of four bytes.
     ReadInto,
+    Gather(usize),
 }
 
 /// A call of the source, and what it answers.
@@ -48,6 +49,8 @@ pub enum Step<'a> {
     Buffer(&'a [u8]),
     /// These bytes are at hand.
     Ahead(&'a [u8]),
+    /// Fewer than so many bytes are at hand, or not.
+    Lacks(usize, bool),
     /// So many of them are passed over.
     Advance(usize),
     /// So many bytes were handed out.
@@ -95,6 +98,7 @@ fn done<'de, R: Read<'de>>(alloc: Global, source: &mut R, call: Call) -> Result<
         Call::Join(count) => source.read_to_buffer(count)?,
         Call::ReadToVec(count) => source.read_to_vec(count, &mut Vec::new(alloc))?,
         Call::ReadInto => source.read_into(&mut [0; 4])?,
+        Call::Gather(count) => source.gather(count),
     }
     Ok(())
 }
@@ -105,6 +109,7 @@ fn is_at_hand<S: Source + Offset>(rt: &impl Abort, source: &mut S, step: &Step) 
         Step::Clear => source.clear_buffer(),
         Step::Buffer(want) => assert!(rt; source.buffer() == want),
         Step::Ahead(want) => assert!(rt; source.ahead() == want),
+        Step::Lacks(count, want) => assert!(rt; source.lacks(count) == want),
         Step::Advance(count) if count <= source.ahead().len() => source.advance(count),
         Step::At(want) => {
             assert!(rt; source.offset() == want);
