@@ -7,3 +7,4 @@ pub mod Every
 pub mod UnreadMemory
 pub mod Forms
 pub mod Left
+pub mod AccessFaults

@@ -4,3 +4,4 @@ pub mod Slots
 pub mod Structs
 pub mod NewFieldPassed
 pub mod StructLoops
+pub mod StructMemory

@@ -17,6 +17,7 @@ use Rattle.cbor_decode_as.specs.Accesses.{most_left}
 use Rattle.cbor_decode_as.specs.Begins as begins
 use Rattle.cbor_decode_as.specs.BeginsEnum as begins_enum
 use Rattle.cbor_decode_as.specs.MapAccesses as maps
+use Rattle.cbor_decode_as.specs.Takes as input
 use Rattle.cbor_decode_as.specs.Takes.{WhateverTaken, formats_of, raws}
 use Rattle.cbor_decode_as.specs.Enums.{Content}
 use Rattle.cbor_decode_as.specs.Variants as variants
@@ -74,6 +75,13 @@ abbrev pub MemoryForOther : {R : Type 0} → (R → Input) → (Remaining → He
     → Type 0
 MemoryForOther seen kind old e =
     begins.MemoryForOther kind old.decoder.levels (seen old.decoder.source) e
+
+-- A refusal reports the fault of the item at the front; or it is a message, where one of another kind
+-- stands there.
+abbrev pub BeginningFault : {R : Type 0} → (R → Input) → (ReadErrorCode → Bool) → (Remaining → Head)
+    → Deserializer R → Error → Type 0
+BeginningFault seen refusals kind old e =
+    begins.BeginningFault kind refusals old.decoder.levels (seen old.decoder.source) e
 
 -- an enum was taken up to its identifier, which is one of the names
 abbrev pub OpensVariant : {R : Type 0} → (R → Input) → List (List ℕ) → Deserializer R
@@ -136,6 +144,13 @@ abbrev pub MemoryForNext : {R A : Type 0} → (R → Input) → (Raw → Type 0)
 MemoryForNext seen asks reads remaining old e =
     arrays.MemoryForNext asks (formats_of old.decoder.formats) reads old.decoder.levels remaining (seen old.decoder.source) e
 
+-- The error reports that neither an item comes nor the end; or it is one of the item that comes, as its
+-- type's.
+abbrev pub NextFault : {R : Type 0} → (R → Input) → (ReadErrorCode → Bool) → Bool → Bool → Remaining
+    → Deserializer R → Error → Type 0
+NextFault seen refusals passes_over total remaining old e =
+    arrays.NextFault refusals (input.ReportsItem passes_over total refusals (formats_of old.decoder.formats) old.decoder.levels) remaining (seen old.decoder.source) e
+
 abbrev pub TakesPart : {R A : Type 0} → (R → Input) → (ReadErrorCode → Bool) → (Raw → A → Type 0)
     → Remaining → Remaining → Deserializer R → Deserializer R → Result A Error → Type 0
 TakesPart seen refusals reads remaining behind old new result =
@@ -151,6 +166,19 @@ abbrev pub MemoryForKey : {R A : Type 0} → (R → Input) → (Raw → Type 0) 
     → Remaining → Deserializer R → Error → Type 0
 MemoryForKey seen asks reads remaining old e =
     maps.MemoryForKey asks (formats_of old.decoder.formats) reads old.decoder.levels remaining (seen old.decoder.source) e
+
+abbrev pub KeyFault : {R : Type 0} → (R → Input) → (ReadErrorCode → Bool) → Bool → Bool → Remaining
+    → Deserializer R → Error → Type 0
+KeyFault seen refusals passes_over total remaining old e =
+    let f = formats_of old.decoder.formats in
+    maps.KeyFault refusals (input.ReportsItem passes_over total refusals f old.decoder.levels) f remaining (seen old.decoder.source) e
+
+-- The error reports that neither a key comes that may begin as it does nor the end; or the fault of the key
+-- that comes, if it reports one.
+abbrev pub NameFault : {R : Type 0} → (R → Input) → (ReadErrorCode → Bool) → Remaining → Deserializer R
+    → Error → Type 0
+NameFault seen refusals remaining old e =
+    maps.KeyFault refusals (input.ItemFault refusals old.decoder.levels) (formats_of old.decoder.formats) remaining (seen old.decoder.source) e
 
 abbrev pub TakesContent : {R A : Type 0} → (R → Input) → (ReadErrorCode → Bool)
     → (Content → A → Type 0) → Form → Deserializer R → Deserializer R → Result A Error → Type 0

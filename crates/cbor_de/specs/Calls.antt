@@ -28,6 +28,13 @@ abbrev pub TakesAtHand : {R A : Type 0} → (R → Input) → (ReadErrorCode →
 TakesAtHand seen refusals reads old new result =
     decoder.TakesAtHand seen refusals reads old.decoder new.decoder result
 
+-- what a call gave for the item at the front where its source could bring it to hand; or that it took
+-- nothing
+abbrev pub TakesGathered : {R A : Type 0} → (R → Input) → (ReadErrorCode → Bool)
+    → (Raw → A → Type 0) → Deserializer R → Deserializer R → Option A → Type 0
+TakesGathered seen refusals reads old new result =
+    decoder.TakesGathered seen refusals reads old.decoder new.decoder result
+
 -- a byte at the least was taken
 abbrev pub Advances : {R : Type 0} → (R → Input) → Deserializer R → Deserializer R → Type 0
 Advances seen old new = step.Advances seen old.decoder new.decoder

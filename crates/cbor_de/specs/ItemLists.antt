@@ -1,19 +1,20 @@
 -- The items that remain of an array, as a tuple.
-use Rattle.std.specs.Prelude.{◌≡◌, ℕ, Bool, List, Result, Ok, Err}
+use Rattle.std.specs.Prelude.{◌≡◌, ◌⊎◌, ◌++◌, ℕ, Bool, List, Result, Ok, Err, Some, codes}
+use Rattle.std.specs.Fmt.{decimal}
 use Rattle.cbor_model.specs.Formats.{Formats}
 use Rattle.cbor_model.specs.Raw.{Raw, Raws}
 use Rattle.cbor_model.specs.Reader.{Reads}
 use Rattle.cbor_io.specs.declared.error.Error.{Error}
 use Rattle.cbor_io.specs.declared.read_error.ReadErrorCode.{ReadErrorCode}
-use Rattle.cbor_io.specs.Error.{code_of, offset_of}
+use Rattle.cbor_io.specs.Error.{IsMessageOf, code_of, offset_of}
 use Rattle.cbor_read.specs.Source.{Input}
-use Rattle.cbor_decode.specs.Gives.{Step}
+use Rattle.cbor_decode.specs.Gives.{Reports, ReportsIo, Step, limits}
 use Rattle.cbor_decode.specs.Heads.{remaining_of}
 use Rattle.cbor_decode.specs.declared.cursor.Remaining.{Remaining}
-use Rattle.cbor_decode_as.specs.Accesses.{items_at}
+use Rattle.cbor_decode_as.specs.Accesses.{IsEnd, items_at}
 use Rattle.cbor_decode_as.specs.Arrays.{AsArray, as_array_same, first_then_same}
 use Rattle.cbor_decode_as.specs.Enums.{part_then, no_part}
-use Rattle.cbor_decode_as.specs.Takes.{Refuses}
+use Rattle.cbor_decode_as.specs.Takes.{ExcusedBy, Refuses}
 
 -- The items that are read mean x, and the rest follows them.
 pub record AreItems {A : Type 0} (items : Raws → A → Type 0) (read : Reads Raws) (x : A) (rest : List ℕ) : Type 0 where
@@ -33,6 +34,19 @@ TakesItems refusals f items levels remaining s t (Ok x) =
 TakesItems refusals f items levels remaining s t (Err e) =
     Refuses refusals s t (code_of e) (offset_of e)
     (λ l bs. AreNoItems items (items_at f l levels (remaining_of remaining) bs))
+
+-- ---- too few items
+
+-- the text of the error of an array that has so many items, and has to have so many
+abbrev pub length_text : ℕ → ℕ → List ℕ
+length_text found expected = codes "invalid length " ++ decimal found ++ codes ", expected " ++ decimal expected
+
+-- Where no item comes of an array of which so much remains, that is reported by this text.
+abbrev pub ReportsShort : (ReadErrorCode → Bool) → List ℕ → Remaining → Input → Error → Type 0
+ReportsShort refusals text remaining s e = (bs : List ℕ) → Reports s bs
+    → (rest : List ℕ) → IsEnd (remaining_of remaining) (limits s bs) bs rest
+    → ExcusedBy (ReportsIo refusals) (code_of e) (offset_of e)
+    ⊎ (IsMessageOf (Some text) (code_of e) × (offset_of e ≡ 0))
 
 -- ---- laws
 

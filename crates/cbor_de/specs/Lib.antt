@@ -37,6 +37,7 @@ pub mod StreamAnswers
 pub mod Streamed
 pub mod Streams
 pub mod Structs
+pub mod StructMemory
 pub mod TagTaken
 pub mod VariantTaken
 pub mod Whole

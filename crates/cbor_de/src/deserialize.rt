@@ -65,6 +65,12 @@ pub trait Readable: Sized + Drop {
         let _ = de;
         None
     }
+
+    /// Whether lists have a source bring the rest of an item's head to hand, where it can, and then
+    /// call `at_hand` once more. It is false unless a type says otherwise.
+    fn is_gathered() -> bool {
+        false
+    }
 }
 
 /// A type that is read from a source.

@@ -4,19 +4,21 @@ ghost use Rattle.std.specs.Prelude.{◌≡◌, ◌<◌, length, IfOk, IfErr, IfS
 ghost use Rattle.std.specs.Prelude.{MatchOption, OnOk, Some};
 ghost use Rattle.cbor_io.specs.Error.{code_of, offset_of, IsMessageOf};
 ghost use Rattle.cbor_io.specs.declared.error.Error.{Error};
+ghost use Rattle.cbor_read.specs.Source.{asks_for};
 ghost use Rattle.cbor_decode.specs.Decoder.{SameSettings};
 ghost use Rattle.cbor_decode.specs.declared.cursor.Remaining.TheVariants.{Counted};
 ghost use Rattle.cbor_decode.specs.Gives.{ReportsNoForm};
 ghost use Rattle.cbor_decode_as.specs.Accesses.{most_left};
 ghost use Rattle.cbor_decode_as.specs.Cases.{HasCase, ReportsBadKey, key_cases};
 ghost use Rattle.cbor_decode_as.specs.Identifiers.{IsMadeBy, NamesNoKey, place_of, texts};
-ghost use Rattle.cbor_decode_as.specs.MapAccesses.{TakesKey};
+ghost use Rattle.cbor_decode_as.specs.MapAccesses.{MemoryForKey, TakesKey};
+ghost use Rattle.cbor_decode_as.specs.Strings.{IsAskedString};
 ghost use Rattle.cbor_parts.specs.Keys.{AreKeysOf, keys_of};
 ghost use Rattle.cbor_de.specs.Structs.{IsField, IsKeyed, IsLabelled, place_in};
 ghost use Rattle.cbor_de.specs.Structs.{missing_text, duplicate_text};
-ghost use Rattle.cbor_decode_as.specs.Takes.{OnceMade};
-ghost use Rattle.cbor_decode_as.specs.Takes.{formats_of};
+ghost use Rattle.cbor_decode_as.specs.Takes.{ItemFault, OnceMade, formats_of};
 ghost use Rattle.cbor_de.specs.Forms.{MayReportKey, never};
+ghost use Rattle.cbor_de.specs.Access as access;
 ghost use Rattle.cbor_de.specs.Calls as call;
 
 use crate::de::Deserializer;
@@ -73,6 +75,11 @@ impl<'de, R: Read<'de>> Deserializer<R> {
             self.old self.new) result }
         ensures taken { OnOk result (call.Advances R.source self.old self.new) }
         ensures below { IfOk result (λ field. IfSome (place_in field) (λ i. i < length names.now)) }
+        ensures memory { IfErr result (λ w. (e : Error) → IsMadeBy self.new.decoder.refusal w e
+            → call.MemoryFor R.source (IsAskedString (asks_for R.refusals R.lends))
+            (IsField (texts names.now)) self.old e) }
+        ensures fault { IfErr result (λ w. (e : Error) → IsMadeBy self.new.decoder.refusal w e
+            → ItemFault R.refusals self.old.decoder.levels (R.source self.old.decoder.source) e) }
         ensures no_key { IfErr result (NamesNoKey self.new.decoder.refusal) }
         ensures settings { SameSettings self.old.decoder self.new.decoder }
     {
@@ -91,6 +98,11 @@ impl<'de, R: Read<'de>> Deserializer<R> {
         ensures taken { OnOk result (call.Advances R.source self.old self.new) }
         ensures below { IfOk result (λ field. IfSome (place_in field)
             (λ i. i < length labels.now)) }
+        ensures memory { IfErr result (λ w. (e : Error) → IsMadeBy self.new.decoder.refusal w e
+            → call.MemoryFor R.source (IsAskedString (asks_for R.refusals R.lends))
+            (IsLabelled labels.now) self.old e) }
+        ensures fault { IfErr result (λ w. (e : Error) → IsMadeBy self.new.decoder.refusal w e
+            → ItemFault R.refusals self.old.decoder.levels (R.source self.old.decoder.source) e) }
         ensures no_key { IfErr result (NamesNoKey self.new.decoder.refusal) }
         ensures settings { SameSettings self.old.decoder self.new.decoder }
     {
@@ -111,6 +123,11 @@ impl<'de, R: Read<'de>> Deserializer<R> {
         ensures taken { OnOk result (call.Advances R.source self.old self.new) }
         ensures below { IfOk result (λ field. IfSome (place_in field)
             (λ i. i < length keys.now.names.now)) }
+        ensures memory { IfErr result (λ w. (e : Error) → IsMadeBy self.new.decoder.refusal w e
+            → call.MemoryFor R.source (IsAskedString (asks_for R.refusals R.lends))
+            (IsKeyed (keys_of keys.now)) self.old e) }
+        ensures fault { IfErr result (λ w. (e : Error) → IsMadeBy self.new.decoder.refusal w e
+            → ItemFault R.refusals self.old.decoder.levels (R.source self.old.decoder.source) e) }
         ensures no_key { IfErr result (NamesNoKey self.new.decoder.refusal) }
         ensures settings { SameSettings self.old.decoder self.new.decoder }
     {
@@ -139,6 +156,12 @@ impl<'de, R: Read<'de>> Deserializer<R> {
         ensures remains { IfOk result (λ next. MatchOption next (remaining.new ≡ Counted 0)
             (λ k. most_left remaining.new (R.source self.new.decoder.source)
             < most_left remaining.old (R.source self.old.decoder.source))) }
+        ensures memory { IfErr result (λ w. (e : Error) → IsMadeBy self.new.decoder.refusal w e
+            → MemoryForKey (IsAskedString (asks_for R.refusals R.lends))
+            (formats_of self.old.decoder.formats) (IsKeyed (keys_of keys.now))
+            self.old.decoder.levels remaining.old (R.source self.old.decoder.source) e) }
+        ensures fault { IfErr result (λ w. (e : Error) → IsMadeBy self.new.decoder.refusal w e
+            → access.NameFault R.source R.refusals remaining.old self.old e) }
         ensures cases { IfErr result (λ w. (e : Error) → IsMadeBy self.new.decoder.refusal w e
             → HasCase (R.source self.old.decoder.source) e
             (key_cases (formats_of self.old.decoder.formats) remaining.old)) }
@@ -183,6 +206,12 @@ pub fn next_key<'de, R: Read<'de>>(
     ensures remains { IfOk result (λ next. MatchOption next (remaining.new ≡ Counted 0)
         (λ k. most_left remaining.new (R.source de.new.decoder.source)
         < most_left remaining.old (R.source de.old.decoder.source))) }
+    // Memory is asked for a name alone, to hand it out or to join its chunks.
+    ensures memory { IfErr result (MemoryForKey (IsAskedString (asks_for R.refusals R.lends))
+        (formats_of de.old.decoder.formats) (IsKeyed (keys_of keys.now)) de.old.decoder.levels
+        remaining.old (R.source de.old.decoder.source)) }
+    ensures fault { IfErr result
+        (access.NameFault R.source R.refusals remaining.old de.old) }
     ensures form { IfErr result (MayReportKey never (formats_of de.old.decoder.formats)
         remaining.old (R.source de.old.decoder.source)) }
     ensures settings { SameSettings de.old.decoder de.new.decoder }

@@ -7,11 +7,12 @@ ghost use Rattle.cbor_decode.specs.Decoder.{SameSettings};
 ghost use Rattle.cbor_decode_as.specs.Accesses.{TakesPart};
 ghost use Rattle.cbor_decode_as.specs.Arrays.{AsArray};
 ghost use Rattle.cbor_decode_as.specs.Takes.{context, formats_of};
-ghost use Rattle.cbor_de.specs.ItemLists.{TakesItems};
+ghost use Rattle.cbor_de.specs.ItemLists.{ReportsShort, TakesItems, length_text};
 ghost use Rattle.cbor_de.specs.Calls as call;
 
 use crate::de::Deserializer;
 use crate::deserialize::{Deserialize, Readable};
+use crate::ready::read_ready;
 use crate::sequence::invalid_length;
 use cbor_decode::Remaining;
 use cbor_decode_as::collection::{array_head, end_array, more_items};
@@ -169,13 +170,15 @@ fn next_part<'de, R: Read<'de>, T: Deserialize<'de, R>>(
         (T.reads (context de.old.decoder.formats R.lends))
         de.old.decoder.levels remaining.old remaining.new
         (R.source de.old.decoder.source) (R.source de.new.decoder.source) result }
+    ensures short { IfErr result (ReportsShort R.refusals (length_text before expected)
+        remaining.old (R.source de.old.decoder.source)) }
     ensures form { IfErr result (call.MayReport R.source T.wrong_forms de.old) }
     ensures settings { SameSettings de.old.decoder de.new.decoder }
 {
     match more_items(&mut de.decoder, remaining) {
         Ok(true) => match T::at_hand(de) {
             Some(item) => Ok(item),
-            None => T::deserialize(de),
+            None => read_ready::<R, T>(de),
         },
         Ok(false) => Err(invalid_length(de.decoder.alloc, before, expected)),
         Err(e) => Err(e),

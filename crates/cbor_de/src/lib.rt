@@ -19,6 +19,7 @@ mod from;
 mod item_list;
 mod laws;
 mod map;
+mod ready;
 mod scalars;
 mod sequence;
 pub mod steps;

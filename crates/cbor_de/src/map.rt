@@ -52,6 +52,8 @@ impl<R: Source> Deserializer<R> {
             (λ m. access.Begins R.source kind.Map self.old m.de.now m.remaining) }
         ensures unopened { IfErr result
             (access.RefusesBeginning R.source R.refusals kind.Map self.old) }
+        ensures fault { IfErr result
+            (access.BeginningFault R.source R.refusals kind.Map self.old) }
         ensures no_form { IfErr result (λ e. ReportsNoForm (code_of e)) }
         ensures memory { IfErr result (access.MemoryForOther R.source kind.Map self.old) }
         ensures taken { IfOk result (λ m. call.Advances R.source self.old m.de.now) }
@@ -118,6 +120,8 @@ impl<'a, R: Source> MapAccess<'a, R> {
             (K.asks_memory (asks_for R.refusals R.lends))
             (K.reads (context self.old.de.now.decoder.formats R.lends)) self.old.remaining
             self.old.de.now) }
+        ensures fault { IfErr result (access.KeyFault R.source R.refusals K.passes_over K.total
+            self.old.remaining self.old.de.now) }
         // Nothing remains after the last pair, and a loop over the pairs ends.
         ensures remains { IfOk result
             (access.Ends R.source self.old.remaining self.new.remaining self.old.de.now
@@ -168,6 +172,8 @@ impl<'a, R: Source> MapAccess<'a, R> {
         ensures memory { IfErr result
             (call.MemoryFor R.source (V.asks_memory (asks_for R.refusals R.lends))
             (V.reads (context self.old.de.now.decoder.formats R.lends)) self.old.de.now) }
+        ensures fault { IfErr result (call.ReportsItem R.source R.refusals V.passes_over V.total
+            self.old.de.now) }
         ensures form { IfErr result (call.MayReport R.source V.wrong_forms self.old.de.now) }
         ensures due { IfOk result (λ v. self.new.value_due ≡ false) }
         ensures settings { call.StaysInside self.old.outer self.old.de.now self.new.de.now result }

@@ -1,15 +1,16 @@
 //! Arrays, one item after the other (RFC 7049, section 2.1, major type 4).
 
-ghost use Rattle.std.specs.Prelude.{◌≡◌, ◌≢◌, ◌<◌, IfOk, IfErr};
+ghost use Rattle.std.specs.Prelude.{◌≡◌, ◌≢◌, ◌<◌, IfOk, IfErr, Some};
 ghost use Rattle.cbor_decode.specs.declared.cursor.Remaining.TheVariants.{Counted};
 ghost use Rattle.std.specs.Borrow.{sem, RestsIfErr};
-ghost use Rattle.cbor_io.specs.Error.{code_of, offset_of};
+ghost use Rattle.cbor_io.specs.Error.{IsMessageOf, code_of, offset_of};
 ghost use Rattle.cbor_read.specs.Source.{asks_for};
 ghost use Rattle.cbor_io.specs.declared.error.ErrorCode.TheVariants.{OutOfMemory};
 ghost use Rattle.cbor_decode.specs.Gives.{IsErrorOf, ReportsNoForm};
 ghost use Rattle.cbor_decode.specs.Gives.{ReportsNoKey};
 ghost use Rattle.cbor_decode_as.specs.Accesses.{TakesEnd, size_of, TakesMore};
 ghost use Rattle.cbor_decode_as.specs.Takes.{IsMessage, OnceMade, context};
+ghost use Rattle.cbor_de.specs.ItemLists.{ReportsShort, length_text};
 ghost use Rattle.cbor_de.specs.contracts.de.Deserializer.{the_row};
 ghost use Rattle.cbor_decode.specs.Cursor.{Counts};
 ghost use Rattle.cbor_decode.specs.declared.head.Head.TheVariants as kind;
@@ -53,6 +54,8 @@ impl<R: Source> Deserializer<R> {
             (λ s. access.Begins R.source kind.Array self.old s.de.now s.remaining) }
         ensures unopened { IfErr result
             (access.RefusesBeginning R.source R.refusals kind.Array self.old) }
+        ensures fault { IfErr result
+            (access.BeginningFault R.source R.refusals kind.Array self.old) }
         ensures no_form { IfErr result (λ e. ReportsNoForm (code_of e)) }
         ensures memory { IfErr result (access.MemoryForOther R.source kind.Array self.old) }
         ensures taken { IfOk result (λ s. call.Advances R.source self.old s.de.now) }
@@ -75,6 +78,7 @@ impl<R: Source> Deserializer<R> {
 #[tactic(auto, using(crate::proofs::refusals::Forms::message_form))]
 pub(crate) fn invalid_length(alloc: Global, found: usize, expected: usize) -> Error
     ensures message { IsMessage result }
+    ensures text { IsMessageOf (Some (length_text found expected)) (code_of result) }
     ensures offset { offset_of result ≡ 0 }
     ensures no_form { ReportsNoForm (code_of result) }
 {
@@ -129,6 +133,8 @@ impl<'a, R: Source> SeqAccess<'a, R> {
             (T.asks_memory (asks_for R.refusals R.lends))
             (T.reads (context self.old.de.now.decoder.formats R.lends)) self.old.remaining
             self.old.de.now) }
+        ensures fault { IfErr result (access.NextFault R.source R.refusals T.passes_over T.total
+            self.old.remaining self.old.de.now) }
         ensures form { IfErr result (call.MayReport R.source T.wrong_forms self.old.de.now) }
         // Nothing remains after the last item, and a loop over the items ends.
         ensures remains { IfOk result
@@ -178,6 +184,8 @@ impl<'a, R: Source> SeqAccess<'a, R> {
         ensures read { access.TakesPart R.source R.refusals
             (T.reads (context self.old.de.now.decoder.formats R.lends)) self.old.remaining
             self.new.remaining self.old.de.now self.new.de.now result }
+        ensures short { IfErr result (ReportsShort R.refusals (length_text before expected)
+            self.old.remaining (R.source self.old.de.now.decoder.source)) }
         ensures form { IfErr result (call.MayReport R.source T.wrong_forms self.old.de.now) }
         ensures settings { call.StaysInside self.old.outer self.old.de.now self.new.de.now result }
         ensures outer { self.new.outer ≡ self.old.outer }

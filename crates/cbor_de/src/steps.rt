@@ -15,7 +15,7 @@ ghost use Rattle.cbor_decode.specs.declared.head.Head.TheVariants as kind;
 ghost use Rattle.cbor_decode.specs.declared.refusal.Refused.TheVariants.{Kept};
 ghost use Rattle.cbor_decode_as.specs.Identifiers.{texts};
 ghost use Rattle.cbor_decode_as.specs.Takes.{formats_of};
-ghost use Rattle.cbor_decode_as.specs.Begins.{MemoryForOther, TakesBeginning};
+ghost use Rattle.cbor_decode_as.specs.Begins.{BeginningFault, MemoryForOther, TakesBeginning};
 ghost use Rattle.cbor_decode_as.specs.BeginsEnum.{TakesPartsHead, TakesVariantHead};
 ghost use Rattle.cbor_io.specs.declared.error.ErrorCode.TheVariants.{ArrayTooLong, OutOfMemory};
 ghost use Rattle.cbor_decode_as.specs.Cases.{FormAlone, IsEnumCode, HasCase};
@@ -92,6 +92,8 @@ pub fn map_head<R: Source>(de: &mut Deserializer<R>) -> Result<Remaining>
         (R.source de.old.decoder.source) (R.source de.new.decoder.source)
         de.new.decoder.levels result }
     ensures no_form { IfErr result (λ e. ReportsNoForm (code_of e)) }
+    ensures fault { IfErr result (BeginningFault kind.Map R.refusals de.old.decoder.levels
+        (R.source de.old.decoder.source)) }
     ensures memory { IfErr result (MemoryForOther kind.Map de.old.decoder.levels
         (R.source de.old.decoder.source)) }
     ensures inside { IfOk result (λ r. de.new.decoder.levels < de.old.decoder.levels) }

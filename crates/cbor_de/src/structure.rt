@@ -8,6 +8,7 @@ ghost use Rattle.cbor_io.specs.Error.{code_of, offset_of, IsMessageOf};
 ghost use Rattle.cbor_io.specs.declared.error.Error.{Error};
 ghost use Rattle.cbor_model.specs.Reader.{item_at};
 ghost use Rattle.cbor_read.specs.Source.{asks_for};
+ghost use Rattle.cbor_decode.specs.HasChunks.{AsksWhere, HasChunks};
 ghost use Rattle.cbor_decode.specs.declared.cursor.Remaining.TheVariants.{Counted};
 ghost use Rattle.cbor_decode.specs.Gives.{Step, ReportsNoForm};
 ghost use Rattle.cbor_decode.specs.declared.head.Head.TheVariants as kind;
@@ -16,6 +17,7 @@ ghost use Rattle.cbor_io.specs.declared.error.ErrorCode.TheVariants.{OutOfMemory
 ghost use Rattle.cbor_decode_as.specs.Cases.{FormAlone, HasCase, ReportsBadKey, key_cases};
 ghost use Rattle.cbor_decode_as.specs.Identifiers.{texts};
 ghost use Rattle.cbor_decode_as.specs.MapAccesses.{TakesMapEnd};
+ghost use Rattle.cbor_decode_as.specs.Strings.{IsAskedString};
 ghost use Rattle.cbor_de.specs.Structs.{IsAny, IsField, place_in, missing_text, duplicate_text};
 ghost use Rattle.cbor_decode_as.specs.Takes.{IsRead, IsNotRead, Refuses};
 ghost use Rattle.cbor_decode_as.specs.Takes.{context, formats_of, raws};
@@ -68,6 +70,8 @@ impl<R: Source> Deserializer<R> {
             (λ m. access.Begins R.source kind.Map self.old m.de.now m.remaining) }
         ensures unopened { IfErr result
             (access.RefusesBeginning R.source R.refusals kind.Map self.old) }
+        ensures fault { IfErr result
+            (access.BeginningFault R.source R.refusals kind.Map self.old) }
         ensures no_form { IfErr result (λ e. ReportsNoForm (code_of e)) }
         ensures memory { IfErr result (access.MemoryForOther R.source kind.Map self.old) }
         ensures taken { IfOk result (λ m. call.Advances R.source self.old m.de.now) }
@@ -136,6 +140,12 @@ impl<'a, R: Source> StructAccess<'a, R> {
         ensures same_reference { self.new.de.ghost_name ≡ self.old.de.ghost_name }
         ensures read { access.TakesKey R.source R.refusals (IsField (texts self.old.names.now))
             self.old.remaining self.new.remaining self.old.de.now self.new.de.now result }
+        // Memory is asked for a name alone, to hand it out or to join its chunks.
+        ensures memory { IfErr result (access.MemoryForKey R.source
+            (IsAskedString (asks_for R.refusals R.lends)) (IsField (texts self.old.names.now))
+            self.old.remaining self.old.de.now) }
+        ensures fault { IfErr result (access.NameFault R.source R.refusals self.old.remaining
+            self.old.de.now) }
         ensures below { IfOk result (λ next. IfSome next (λ field.
             IfSome (place_in field) (λ i. i < length self.old.names.now))) }
         // Nothing remains after the last pair, and a loop over the fields ends.
@@ -188,6 +198,8 @@ impl<'a, R: Source> StructAccess<'a, R> {
         ensures memory { IfErr result
             (call.MemoryFor R.source (V.asks_memory (asks_for R.refusals R.lends))
             (V.reads (context self.old.de.now.decoder.formats R.lends)) self.old.de.now) }
+        ensures fault { IfErr result (call.ReportsItem R.source R.refusals V.passes_over V.total
+            self.old.de.now) }
         ensures form { IfErr result (call.MayReport R.source V.wrong_forms self.old.de.now) }
         ensures due { IfOk result (λ v. self.new.value_due ≡ false) }
         ensures settings { call.StaysInside self.old.outer self.old.de.now self.new.de.now result }
@@ -239,6 +251,11 @@ impl<'a, R: Source> StructAccess<'a, R> {
             → IsNotRead (V.reads (context self.old.de.now.decoder.formats R.lends))
             (item_at (raws (formats_of self.old.de.now.decoder.formats) l)
             self.old.de.now.decoder.levels bs))) }
+        ensures memory { IfErr result (λ e. is_some slot.old ≡ false
+            → call.MemoryFor R.source (V.asks_memory (asks_for R.refusals R.lends))
+            (V.reads (context self.old.de.now.decoder.formats R.lends)) self.old.de.now e) }
+        ensures fault { IfErr result (λ e. is_some slot.old ≡ false
+            → call.ReportsItem R.source R.refusals V.passes_over V.total self.old.de.now e) }
         ensures form { IfErr result (call.MayReport R.source V.wrong_forms self.old.de.now) }
         ensures text { IfErr result (λ e. is_some slot.old ≡ true →
             IsMessageOf (Some (duplicate_text name.now)) (code_of e)) }
@@ -308,6 +325,8 @@ impl<'a, R: Source> StructAccess<'a, R> {
         ensures same_reference { self.new.de.ghost_name ≡ self.old.de.ghost_name }
         ensures read { call.TakesItem R.source R.refusals IsAny
             self.old.de.now self.new.de.now result }
+        ensures memory { IfErr result (call.MemoryFor R.source
+            (λ r. AsksWhere (asks_for R.refusals R.lends) (HasChunks r)) IsAny self.old.de.now) }
         ensures form { IfErr result (call.MayReport R.source key_form self.old.de.now) }
         ensures due { IfOk result (λ u. self.new.value_due ≡ false) }
         ensures settings { call.StaysInside self.old.outer self.old.de.now self.new.de.now result }

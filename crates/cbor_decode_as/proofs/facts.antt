@@ -10,3 +10,4 @@ pub mod Maps
 pub mod Enums
 pub mod Readings
 pub mod Places
+pub mod Names

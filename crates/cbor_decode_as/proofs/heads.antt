@@ -7,3 +7,5 @@ pub mod PassedMemory
 pub mod TagHeads
 pub mod PassedTags
 pub mod FirstByte
+pub mod ItemsBehind
+pub mod BeginningFaults

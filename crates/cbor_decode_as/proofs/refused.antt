@@ -2,3 +2,5 @@
 pub mod Cases
 pub mod Codes
 pub mod Refusing
+pub mod Gathered
+pub mod Faults

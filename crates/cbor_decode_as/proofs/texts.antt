@@ -9,3 +9,5 @@ pub mod ShortTexts
 pub mod Characters
 pub mod Identifiers
 pub mod ShortNames
+pub mod NamedFaults
+pub mod NamedItems

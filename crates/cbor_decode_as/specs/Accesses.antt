@@ -1,5 +1,5 @@
 -- What the calls of an access take of its source.
-use Rattle.std.specs.Prelude.{◌≡◌, ℕ, ◌^◌, ◌-◌, Bool, List, Option, Some, None, Result}
+use Rattle.std.specs.Prelude.{◌≡◌, ◌⊎◌, ℕ, ◌^◌, ◌-◌, Bool, List, Option, Some, None, Result}
 use Rattle.std.specs.Prelude.{Ok, Err}
 use Rattle.cbor_model.specs.Formats.{Formats}
 use Rattle.cbor_model.specs.Head.{HeadWidth}
@@ -92,13 +92,30 @@ TakesPart {A} refusals f reads levels remaining behind s t (Err e) =
     Refuses refusals s t (code_of e) (offset_of e)
     (λ l bs. (x : A) (after : reader.Remaining) (rest : List ℕ) → IsNextItem reads f levels (remaining_of remaining) after x l bs rest → ⊥)
 
--- Where memory ran out, the next item that is read as something is one for which memory may be asked.
+-- Where memory ran out, the next item that is read as something is one for which memory may be asked; and
+-- it doesn't where none comes.
 abbrev pub MemoryForNext : {A : Type 0} → (Raw → Type 0) → Formats → (Raw → A → Type 0) → ℕ
     → Remaining → Input → Error → Type 0
 MemoryForNext {A} asks f reads levels remaining s e = code_of e ≡ OutOfMemory
-    → (bs : List ℕ) → Reports s bs → (x : A) (after : reader.Remaining) (rest : List ℕ)
+    → (bs : List ℕ) → Reports s bs
+    → ((x : A) (after : reader.Remaining) (rest : List ℕ)
     → (next : IsNextItem reads f levels (remaining_of remaining) after x (limits s bs) bs rest)
-    → asks next.item.item
+    → asks next.item.item)
+    × ((rest : List ℕ) → IsEnd (remaining_of remaining) (limits s bs) bs rest → ⊥)
+
+-- Another item comes of an array of which so much remains, and P holds of what stands there.
+pub record NextComes (remaining : Remaining) (s : Input) (P : Input → Type 0) : Type 0 where
+  pub behind : Remaining
+  pub place : Input
+  pub step : Step s place (λ l bs rest. next_at end_in_array (remaining_of remaining) bs ≡ Ok (Some (remaining_of behind), rest))
+  pub holds : P place
+
+-- The error reports that neither an item comes nor the end; or one comes, and it is of that item.
+abbrev pub NextFault : (ReadErrorCode → Bool) → (Input → Error → Type 0) → Remaining → Input → Error
+    → Type 0
+NextFault refusals fault remaining s e =
+    ReportsFault refusals (λ l. next_at end_in_array (remaining_of remaining)) s e
+    ⊎ NextComes remaining s (λ t. fault t e)
 
 -- how many more items can follow: a loop over them ends
 abbrev pub most_left : Remaining → Input → ℕ

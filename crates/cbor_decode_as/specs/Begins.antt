@@ -1,5 +1,5 @@
 -- The head of an array or a map, whatever follows it.
-use Rattle.std.specs.Prelude.{◌≡◌, ◌≢◌, ℕ, ◌+◌, Bool, List, [], ◌∷◌, Result, Ok, Err, refl, Some}
+use Rattle.std.specs.Prelude.{◌≡◌, ◌≢◌, ◌⊎◌, ℕ, ◌+◌, Bool, List, [], ◌∷◌, Result, Ok, Err, refl, Some}
 use Rattle.cbor_model.specs.Reader.{byte_at, number_behind}
 use Rattle.cbor_io.specs.declared.error.Error.{Error}
 use Rattle.cbor_io.specs.declared.error.ErrorCode.TheVariants.{OutOfMemory}
@@ -13,7 +13,7 @@ use Rattle.cbor_decode.specs.declared.cursor.Remaining.TheVariants.{Counted, ToB
 use Rattle.cbor_decode.specs.declared.head.Head.{Head}
 use Rattle.cbor_decode.specs.declared.head.Head.TheVariants.{Array, Map, Break, Text}
 use Rattle.cbor_decode_as.specs.TaggedHeads.{opened_at}
-use Rattle.cbor_decode_as.specs.Takes.{Refuses}
+use Rattle.cbor_decode_as.specs.Takes.{IsMessage, Refuses, ReportsFault, any_item}
 
 -- The heads of some tags, each a level further in, and then a head of this kind stand before the
 -- rest: an array's or a map's, of which so much remains. Of so many levels so many are left for its
@@ -54,6 +54,14 @@ pub record OtherBegins (kind : Remaining → Head) (levels : ℕ) (bs : List ℕ
 abbrev pub MemoryForOther : (Remaining → Head) → ℕ → Input → Error → Type 0
 MemoryForOther kind levels s e = code_of e ≡ OutOfMemory → (bs : List ℕ) → Reports s bs
     → OtherBegins kind levels bs
+
+-- ---- the fault
+
+-- A refusal reports the fault of the item at the front; or it is a message, where one of another kind
+-- stands there.
+abbrev pub BeginningFault : (Remaining → Head) → (ReadErrorCode → Bool) → ℕ → Input → Error → Type 0
+BeginningFault kind refusals levels s e = ReportsFault refusals (any_item levels) s e
+    ⊎ (IsMessage e × ((bs : List ℕ) → Reports s bs → OtherBegins kind levels bs))
 
 -- ---- examples
 

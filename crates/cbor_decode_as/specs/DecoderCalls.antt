@@ -4,7 +4,7 @@ use Rattle.std.specs.Prelude.{◌≡◌, Bool, Result, Ok, Option, Some, None}
 use Rattle.cbor_model.specs.Raw.{Raw}
 use Rattle.cbor_io.specs.declared.error.Error.{Error}
 use Rattle.cbor_io.specs.declared.read_error.ReadErrorCode.{ReadErrorCode}
-use Rattle.cbor_read.specs.Source.{Input}
+use Rattle.cbor_read.specs.Source.{Input, Stays}
 use Rattle.cbor_decode.specs.declared.Decoder.{Decoder}
 use Rattle.cbor_decode_as.specs.Takes as input
 use Rattle.cbor_decode_as.specs.Takes.{formats_of}
@@ -21,6 +21,13 @@ abbrev pub TakesAtHand : {R A : Type 0} → (R → Input) → (ReadErrorCode →
     → Decoder R → Decoder R → Option A → Type 0
 TakesAtHand seen refusals reads old new (Some x) = TakesItem seen refusals reads old new (Ok x)
 TakesAtHand seen refusals reads old new None = seen new.source ≡ seen old.source
+
+-- what a call gave for the item at the front where its source could bring it to hand; or that it took
+-- nothing
+abbrev pub TakesGathered : {R A : Type 0} → (R → Input) → (ReadErrorCode → Bool)
+    → (Raw → A → Type 0) → Decoder R → Decoder R → Option A → Type 0
+TakesGathered seen refusals reads old new (Some x) = TakesItem seen refusals reads old new (Ok x)
+TakesGathered seen refusals reads old new None = Stays (seen old.source) (seen new.source)
 
 -- Where memory ran out, the item that is read as something is one for which memory may be asked.
 abbrev pub MemoryFor : {R A : Type 0} → (R → Input) → (Raw → Type 0) → (Raw → A → Type 0)

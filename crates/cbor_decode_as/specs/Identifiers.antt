@@ -1,23 +1,33 @@
 -- What names a field of a struct, or a variant of an enum.
-use Rattle.std.specs.Prelude.{⊤, ◌≡◌, ◌≢◌, ◌⊎◌, ◌<◌, ◌+◌, ℕ, ℤ, pos, negsuc, Bool, zero, suc, List, [], ◌∷◌, length, Option, Some, None}
+use Rattle.std.specs.Prelude.{⊤, true, ◌≡◌, ◌≢◌, ◌⊎◌, ◌<◌, ◌+◌, ◌-◌, ℕ, ℤ, pos, negsuc, Bool, zero, suc, List, [], ◌∷◌, length, Option, Some, None}
 use Rattle.std.specs.Prelude.{nat_lt, Result, Ok, Err, if◌then◌else◌, refl, codes}
 use Rattle.std.specs.Prelude as prelude
 use Rattle.std.specs.Borrow.{Bor}
 use Rattle.std.specs.Str.{IsUtf8}
+use Rattle.std.specs.Str.Lossy.{utf8_valid_len}
 use Rattle.cbor_model.specs.Head.{no_bytes, one_byte}
 use Rattle.cbor_model.specs.Raw as raw
 use Rattle.cbor_model.specs.Raw.{Raw}
+use Rattle.cbor_model.specs.Plain.{Val}
 use Rattle.cbor_model.specs.Readable.{IsString}
+use Rattle.cbor_model.specs.Reader.{Reads}
 use Rattle.cbor_io.specs.declared.error.Error.{Error}
 use Rattle.cbor_io.specs.declared.read_error.ReadError.{ReadError}
 use Rattle.cbor_io.specs.declared.read_error.ReadErrorCode.{ReadErrorCode}
+use Rattle.cbor_io.specs.declared.read_error.ReadErrorCode.TheVariants as reading
 use Rattle.cbor_io.specs.Error.{code_of, offset_of}
-use Rattle.cbor_read.specs.Source.{Input}
-use Rattle.cbor_decode.specs.Gives.{Step, IsErrorOf, ReportsNoKey}
+use Rattle.cbor_read.specs.Source.{Asks, Input}
+use Rattle.cbor_decode.specs.Gives.{IsAt, IsErrorOf, Limits, ReportsNoKey, ReportsWhy, Step}
+use Rattle.cbor_decode.specs.Memory.{MemoryOnly}
 use Rattle.cbor_decode.specs.declared.head.Head.{Head}
+use Rattle.cbor_decode.specs.declared.head.Head.TheVariants as head
 use Rattle.cbor_decode.specs.declared.refusal.Refused as kept
-use Rattle.cbor_decode_as.specs.Strings.{content_at}
-use Rattle.cbor_decode_as.specs.Takes.{IsMessage, Refuses, RefusesWhole}
+use Rattle.cbor_decode.specs.declared.refusal.Refused.TheVariants as refused
+use Rattle.cbor_decode_as.specs.Strings.{asks_head, content_at}
+use Rattle.cbor_decode_as.specs.TaggedHeads.{AtHead}
+use Rattle.cbor_decode_as.specs.Takes.{IsMessage, Refuses, RefusesWhole, ReportsFault, any_item}
+use Rattle.cbor_decode_as.specs.declared.borrowed.Unread.{Unread}
+use Rattle.cbor_decode_as.specs.declared.borrowed.Unread.TheVariants as unread
 use Rattle.cbor_decode_as.specs.declared.identifier.Why.{Why}
 use Rattle.cbor_decode_as.specs.declared.identifier.Why.TheVariants.{Refused, Other}
 
@@ -86,10 +96,11 @@ abbrev pub NamesNoKey : ReadError → Why → Type 0
 NamesNoKey kept (Refused r) = ReportsNoKey kept r
 NamesNoKey kept Other = ⊤
 
--- The place of the name that these bytes are as a text. Where they aren't UTF-8 they are no text.
+-- The place of the name that these bytes are as a text; or how many of them stand from the first on that
+-- isn't UTF-8.
 abbrev pub NamesText : List (List ℕ) → List ℕ → Result (Option ℕ) ℕ → Type 0
 NamesText names b (Ok place) = IsUtf8 b × IsPlace names b place
-NamesText names b (Err back) = IsUtf8 b → ⊥
+NamesText names b (Err back) = (IsUtf8 b → ⊥) × (back ≡ length b - utf8_valid_len b)
 
 -- A string of these bytes was taken after its head.
 abbrev pub Content : Head → Input → Input → List ℕ → Type 0
@@ -112,6 +123,71 @@ TakesBytesName refusals names h s t kept (Ok place) =
 TakesBytesName refusals names h s t kept (Err why) = (e : Error) → IsMadeBy kept why e
     → Refuses refusals s t (code_of e) (offset_of e)
     (λ l bs. (b rest : List ℕ) → content_at l h bs ≡ Ok (b, rest) → ⊥)
+
+-- why no string was lent, as why nothing was named
+abbrev pub IsWhyOf : Unread → ReadError → Why → Type 0
+IsWhyOf (unread.Stopped q) kept why = (why ≡ Refused refused.Kept) × (kept ≡ q)
+IsWhyOf unread.Other kept why = why ≡ Other
+
+-- the same of an item of another kind, by its head, behind which this offset is
+abbrev pub IsWhyOfHead : Head → ℕ → ReadError → Why → Type 0
+IsWhyOfHead head.Break at kept why =
+    (why ≡ Refused refused.Kept) × IsAt reading.UnexpectedCode at kept
+IsWhyOfHead h at kept why = why ≡ Other
+
+-- ---- the fault that is reported
+
+-- What is kept of why nothing was named reports the fault of a reading; or an item of another kind is
+-- there, and P holds.
+abbrev pub NamesFault : Type 0 → (ReadErrorCode → Bool) → (Limits → List ℕ → Reads Val) → Input
+    → ReadError → Why → Type 0
+NamesFault P refusals read s kept (Refused r) = ReportsWhy refusals read s kept r
+NamesFault P refusals read s kept Other = P
+
+-- The fault of the item at the front; or P holds of its head.
+abbrev pub NamesFront : (Head → Type 0) → (ReadErrorCode → Bool) → ℕ → Input → ReadError → Why → Type 0
+NamesFront P refusals levels s kept why =
+    NamesFault (AtHead P levels s) refusals (any_item levels) s kept why
+
+-- the head of what names nothing: of no number from 0, no string, and no break
+abbrev pub IsNoName : Head → Type 0
+IsNoName (head.Unsigned n) = ⊥
+IsNoName (head.Bytes n) = ⊥
+IsNoName (head.Text n) = ⊥
+IsNoName head.Break = ⊥
+IsNoName h = ⊤
+
+-- the head of what is no label: of no integer, no string, and no break
+abbrev pub IsNoLabel : Head → Type 0
+IsNoLabel (head.Unsigned n) = ⊥
+IsNoLabel (head.Negative n) = ⊥
+IsNoLabel (head.Bytes n) = ⊥
+IsNoLabel (head.Text n) = ⊥
+IsNoLabel head.Break = ⊥
+IsNoLabel h = ⊤
+
+-- A refusal reports the fault of the item at the front; or it is a message, and P holds of its head.
+abbrev pub RefusesName : (Head → Type 0) → (ReadErrorCode → Bool) → ℕ → Input → Error → Type 0
+RefusesName P refusals levels s e =
+    ReportsFault refusals (any_item levels) s e ⊎ (IsMessage e × AtHead P levels s)
+
+-- ---- memory
+
+-- Where memory ran out, P holds.
+abbrev pub NamesOnly : Type 0 → ReadError → Why → Type 0
+NamesOnly P kept (Refused r) = MemoryOnly P kept r
+NamesOnly P kept Other = ⊤
+
+-- the head of a string for which memory may be asked
+abbrev pub AsksAtHead : Asks → Head → Type 0
+AsksAtHead a (head.Bytes n) = asks_head a (head.Bytes n) ≡ true
+AsksAtHead a (head.Text n) = asks_head a (head.Text n) ≡ true
+AsksAtHead a h = ⊥
+
+-- It may ask for memory for the name at the front: a string for which it may.
+pub record AsksForName (a : Asks) (levels : ℕ) (s : Input) : Type 0 where
+  pub asks : (a.whole ≡ true) ⊎ (a.joined ≡ true)
+  pub string : AtHead (AsksAtHead a) levels s
 
 -- ---- examples
 

@@ -1,5 +1,5 @@
 -- What the calls of an access to a map take of its source.
-use Rattle.std.specs.Prelude.{◌≡◌, ℕ, Bool, true, false, List, Option, Some, None}
+use Rattle.std.specs.Prelude.{◌≡◌, ◌⊎◌, ℕ, Bool, true, false, List, Option, Some, None}
 use Rattle.std.specs.Prelude.{Result, Ok, Err}
 use Rattle.cbor_model.specs.Formats.{Formats, may_begin_key}
 use Rattle.cbor_model.specs.Head.{HeadWidth}
@@ -59,6 +59,14 @@ TakesMapHead refusals f levels s t left (Err e) = RefusesMap refusals f levels s
 abbrev pub key_front : Formats → List ℕ → Reads (Unit {0})
 key_front f bs = key_at (may_begin_key f) (λ key. Ok (tt, key)) bs
 
+-- Whether another pair comes, and its key, which has to begin as it may.
+abbrev pub begun_key : Formats → Option reader.Remaining → List ℕ → Reads (Option reader.Remaining)
+begun_key f None bs = Ok (None, bs)
+begun_key f (Some behind) bs = key_front f bs >>= (λ u. Ok (Some behind, u.1))
+
+abbrev pub pair_front : Formats → reader.Remaining → List ℕ → Reads (Option reader.Remaining)
+pair_front f remaining bs = next_at end_in_map remaining bs >>= (λ next. begun_key f next.0 next.1)
+
 -- Whether another pair comes, whose key may begin as it does.
 abbrev pub Comes : Formats → reader.Remaining → reader.Remaining → Bool → List ℕ → List ℕ → Type 0
 Comes f remaining behind false bs rest = next_at end_in_map remaining bs ≡ Ok (None, rest)
@@ -104,13 +112,31 @@ TakesKey {K} refusals f reads levels remaining behind s t (Err e) =
     (λ l bs. (next : Option K) (after : reader.Remaining) (rest : List ℕ)
     → IsKey reads f levels (remaining_of remaining) after next l bs rest → ⊥)
 
--- Where memory ran out, the next key that is read as something is one for which memory may be asked.
+-- Where memory ran out, the next key that is read as something is one for which memory may be asked; and it
+-- doesn't where no pair comes.
 abbrev pub MemoryForKey : {K : Type 0} → (Raw → Type 0) → Formats → (Raw → K → Type 0) → ℕ
     → Remaining → Input → Error → Type 0
 MemoryForKey {K} asks f reads levels remaining s e = code_of e ≡ OutOfMemory
-    → (bs : List ℕ) → Reports s bs → (k : K) (after : reader.Remaining) (rest : List ℕ)
+    → (bs : List ℕ) → Reports s bs
+    → ((k : K) (after : reader.Remaining) (rest : List ℕ)
     → (next : IsNextKey reads f levels (remaining_of remaining) after k (limits s bs) bs rest)
-    → asks next.key.item
+    → asks next.key.item)
+    × ((rest : List ℕ) → IsMapEnd (remaining_of remaining) (limits s bs) bs rest → ⊥)
+
+-- Another pair comes of a map of which so much remains, and P holds of what stands there.
+pub record KeyComes (remaining : Remaining) (s : Input) (P : Input → Type 0) : Type 0 where
+  pub behind : Remaining
+  pub place : Input
+  pub step : Step s place (λ l bs rest. next_at end_in_map (remaining_of remaining) bs ≡ Ok (Some (remaining_of behind), rest))
+  pub holds : P place
+
+-- The error reports that neither a key comes that may begin as it does nor the end; or one comes, and it is
+-- of that key.
+abbrev pub KeyFault : (ReadErrorCode → Bool) → (Input → Error → Type 0) → Formats → Remaining → Input
+    → Error → Type 0
+KeyFault refusals fault f remaining s e =
+    ReportsFault refusals (λ l. pair_front f (remaining_of remaining)) s e
+    ⊎ KeyComes remaining s (λ t. fault t e)
 
 -- The map's end was taken; or the error reports why not, and some bytes were taken.
 abbrev pub TakesMapEnd : (ReadErrorCode → Bool) → Remaining → Input → Input

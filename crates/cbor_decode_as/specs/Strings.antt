@@ -214,6 +214,12 @@ asks_head a (Bytes None) = a.joined
 asks_head a (Text None) = a.joined
 asks_head a h = a.whole
 
+-- The item is a string, within tags, for which it may ask for memory.
+pub record IsAskedString (a : Asks) (r : Raw) : Type 0 where
+  pub bytes : List ℕ
+  pub string : IsString (untagged r) bytes
+  pub asks : asks_string a (untagged r) ≡ true
+
 -- Where a string is within these tags, it may ask for memory to lend it.
 abbrev pub AsksForString : Asks → Raw → Type 0
 AsksForString a r = (b : List ℕ) → IsString (untagged r) b → asks_string a (untagged r) ≡ true

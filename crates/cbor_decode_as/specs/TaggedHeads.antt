@@ -13,17 +13,18 @@ use Rattle.cbor_io.specs.declared.read_error.ReadError.{ReadError}
 use Rattle.cbor_io.specs.declared.read_error.ReadErrorCode.{ReadErrorCode}
 use Rattle.cbor_io.specs.Error.{code_of, offset_of}
 use Rattle.cbor_io.specs.declared.error.Error.{Error}
+use Rattle.cbor_io.specs.declared.error.ErrorCode.TheVariants.{UnexpectedCode}
 use Rattle.cbor_read.specs.Source.{Asks, Input}
 use Rattle.cbor_decode.specs.Gives.{Limits, limits, values, ReportsIo, Step, Stopped, Reports}
 use Rattle.cbor_decode.specs.HasChunks.{AllRead, AsksWhere, HasChunks}
 use Rattle.cbor_decode.specs.Heads.{opening_at, head_at, head_of, after_head, behind_head}
 use Rattle.cbor_decode.specs.declared.cursor.Remaining.TheVariants.{Counted}
 use Rattle.cbor_decode.specs.declared.head.Head.{Head}
-use Rattle.cbor_decode.specs.declared.head.Head.TheVariants.{Array, Tag}
+use Rattle.cbor_decode.specs.declared.head.Head.TheVariants.{Array, Break, Tag}
 use Rattle.cbor_decode.specs.declared.refusal.Refused.{Refused}
 use Rattle.cbor_decode_as.specs.Kinds.{head_kind}
 use Rattle.cbor_decode_as.specs.Kinds as kind
-use Rattle.cbor_decode_as.specs.Takes.{FaultOrMessage, raws}
+use Rattle.cbor_decode_as.specs.Takes.{FaultOrMessage, IsMessage, raws}
 use Rattle.cbor_decode_as.specs.declared.head.HeadAt.{HeadAt}
 
 -- an item within these tags
@@ -90,6 +91,24 @@ opened_at (suc left) = opened_from (suc left) (Some (opened_at left))
 abbrev pub opened_inside : ℕ → List ℕ → Reads (ℕ × Head)
 opened_inside zero bs = Err (before too_deep bs)
 opened_inside (suc left) bs = opened_at left bs
+
+-- Behind the heads of some tags stands a head of which P holds.
+pub record HasHead (P : Head → Type 0) (levels : ℕ) (bs : List ℕ) : Type 0 where
+  pub left : ℕ
+  pub head : Head
+  pub rest : List ℕ
+  pub is : opened_at levels bs ≡ Ok ((left, head), rest)
+  pub holds : P head
+
+-- The error of an item of another kind, by its head, behind which this offset is: a message, but for a
+-- break, which is no item.
+abbrev pub IsMismatch : Head → ℕ → Error → Type 0
+IsMismatch Break at e = (code_of e ≡ UnexpectedCode) × (offset_of e ≡ at)
+IsMismatch h at e = IsMessage e
+
+-- such a head is at the front
+abbrev pub AtHead : (Head → Type 0) → ℕ → Input → Type 0
+AtHead P levels s = (bs : List ℕ) → Reports s bs → HasHead P levels bs
 
 -- ---- what follows it
 

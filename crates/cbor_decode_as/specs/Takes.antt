@@ -1,6 +1,6 @@
 -- What a call takes of its source that reads a type: `Takes` is the word for calls, which return an
 -- error; for the steps of a decoder, which keep why they were refused, it is `Gives` (`cbor_decode`).
-use Rattle.std.specs.Prelude.{◌≡◌, ◌+◌, ℕ, Bool, true, false, List, [], ◌∷◌, length, None, Result, Ok}
+use Rattle.std.specs.Prelude.{⊤, ◌≡◌, ◌+◌, ℕ, Bool, true, false, List, [], ◌∷◌, length, None, Result, Ok}
 use Rattle.std.specs.Prelude.{Err, ◌⊎◌, String, refl}
 use Rattle.std.specs.Global.{Global}
 use Rattle.cbor_model.specs.Raw.{Raw}
@@ -13,7 +13,10 @@ use Rattle.cbor_model.specs.Reader.{content_at, number_behind, text_at}
 use Rattle.cbor_io.specs.declared.error.Error.{Error}
 use Rattle.cbor_io.specs.declared.error.ErrorCode.{ErrorCode}
 use Rattle.cbor_io.specs.declared.error.ErrorCode.TheVariants.{EofWhileParsingValue, Io, Message}
-use Rattle.cbor_io.specs.declared.error.ErrorCode.TheVariants.{OutOfMemory}
+use Rattle.cbor_io.specs.declared.error.ErrorCode.TheVariants.{OutOfMemory, ArrayTooShort}
+use Rattle.cbor_io.specs.declared.error.ErrorCode.TheVariants.{ArrayTooLong, WrongEnumFormat}
+use Rattle.cbor_io.specs.declared.error.ErrorCode.TheVariants.{WrongStructFormat, NotCanonical}
+use Rattle.cbor_io.specs.declared.error.ErrorCode.TheVariants.{TrailingData}
 use Rattle.cbor_io.specs.declared.read_error.ReadErrorCode.{ReadErrorCode}
 use Rattle.cbor_io.specs.Error.{code_of, offset_of, IsMessageOf}
 use Rattle.cbor_read.specs.Source.{Input, Lends, TookSome}
@@ -107,6 +110,23 @@ abbrev pub ReportsFault : {A : Type 0} → (ReadErrorCode → Bool) → (Limits 
     → Error → Type 0
 ReportsFault refusals read s e = (bs : List ℕ) → Reports s bs → FailsBy (ReportsIo refusals) (code_of e) (s.offset + length bs) (offset_of e) (read (limits s bs) bs)
 
+-- The code and the offset report the fault that a reading meets, if they report one of the bytes: a
+-- message doesn't, nor a wrong form, nor that items are left of an array or a map.
+abbrev pub FaultIfAny : {A : Type 0} → Type 0 → ErrorCode → ℕ → ℕ → Result A Fault → Type 0
+FaultIfAny Device (Message s) end at read = at ≡ 0
+FaultIfAny Device ArrayTooShort end at read = ⊤
+FaultIfAny Device ArrayTooLong end at read = ⊤
+FaultIfAny Device WrongEnumFormat end at read = ⊤
+FaultIfAny Device WrongStructFormat end at read = ⊤
+FaultIfAny Device NotCanonical end at read = ⊤
+FaultIfAny Device TrailingData end at read = ⊤
+FaultIfAny {A = A} Device code end at read = FailsBy {A = A} Device code end at read
+
+-- the fault of a reading, if the error reports one
+abbrev pub ReportsIfAny : {A : Type 0} → (ReadErrorCode → Bool) → (Limits → List ℕ → Reads A) → Input
+    → Error → Type 0
+ReportsIfAny refusals read s e = (bs : List ℕ) → Reports s bs → FaultIfAny (ReportsIo refusals) (code_of e) (s.offset + length bs) (offset_of e) (read (limits s bs) bs)
+
 -- ---- the fault, or a message for the item that is there
 
 -- a message, which has no place, or excused
@@ -122,6 +142,10 @@ FaultOrMessage {A = A} Device code end at (Err f) = FailsBy {A = A} Device code 
 -- the item at the front, whatever formats its keys are of
 abbrev pub any_item : ℕ → Limits → List ℕ → Reads Val
 any_item levels l = item_at (values all_formats l) levels
+
+-- The fault of the item at the front, if the error reports one, whatever formats its keys are of.
+abbrev pub ItemFault : (ReadErrorCode → Bool) → ℕ → Input → Error → Type 0
+ItemFault refusals levels s e = ReportsIfAny refusals (any_item levels) s e
 
 -- A refusal reports the fault of the item at the front, where so many levels are left; and it is a
 -- message exactly where an item stands there. Lack of memory and a device's fault may come in place of

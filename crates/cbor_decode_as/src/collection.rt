@@ -5,17 +5,21 @@ ghost use Rattle.std.specs.Prelude.{MatchOption, true, false};
 ghost use Rattle.cbor_io.specs.Error.{code_of};
 ghost use Rattle.cbor_decode.specs.Decoder.{SameSettings};
 ghost use Rattle.cbor_decode.specs.Cursor.{Counts};
-ghost use Rattle.cbor_decode.specs.Gives.{ReportsNoForm, ReportsNoMemory, IsAt, IsErrorOf};
+ghost use Rattle.cbor_decode.specs.Gives.{ReportsNoForm, ReportsNoMemory, ReportsWhy, IsAt};
+ghost use Rattle.cbor_decode.specs.Gives.{IsErrorOf};
+ghost use Rattle.cbor_decode.specs.Heads.{remaining_of};
 ghost use Rattle.cbor_decode_as.specs.Accesses.{TakesHead, TakesMore, TakesEnd};
-ghost use Rattle.cbor_decode_as.specs.Begins.{MemoryForOther, TakesBeginning};
-ghost use Rattle.cbor_decode_as.specs.Takes.{formats_of, OnceMade};
+ghost use Rattle.cbor_decode_as.specs.Begins.{BeginningFault, MemoryForOther, TakesBeginning};
+ghost use Rattle.cbor_decode_as.specs.Takes.{OnceMade, ReportsFault, formats_of};
 ghost use Rattle.cbor_model.specs.Formats.{may_begin_key};
+ghost use Rattle.cbor_model.specs.Reader.{next_at};
+ghost use Rattle.cbor_model.specs.Refusal.{end_in_array};
 ghost use Rattle.cbor_decode.specs.declared.refusal.Refused.TheVariants.{Kept};
 ghost use Rattle.cbor_io.specs.declared.error.Error.{Error};
 ghost use Rattle.cbor_io.specs.declared.error.ErrorCode.TheVariants.{OutOfMemory};
 ghost use Rattle.cbor_decode_as.specs.Cases.{HasCase, ReportsBadKey, key_cases};
 ghost use Rattle.cbor_decode_as.specs.MapAccesses.{TakesMapHead, TakesMorePairs, TakesMapEnd};
-ghost use Rattle.cbor_decode_as.specs.MapAccesses.{key_front};
+ghost use Rattle.cbor_decode_as.specs.MapAccesses.{key_front, pair_front};
 ghost use Rattle.cbor_decode.specs.declared.head.Head.TheVariants as kind;
 ghost use Rattle.cbor_io.specs.declared.read_error.ReadErrorCode.TheVariants as reading;
 ghost use Rattle.cbor_decode.specs.Steps as step;
@@ -67,6 +71,8 @@ pub fn array_head<R: Source>(decoder: &mut Decoder<R>) -> Result<Remaining>
         decoder.new.levels result }
     ensures taken { OnOk result (step.Advances R.source decoder.old decoder.new) }
     ensures no_form { IfErr result (λ e. ReportsNoForm (code_of e)) }
+    ensures fault { IfErr result (BeginningFault kind.Array R.refusals decoder.old.levels
+        (R.source decoder.old.source)) }
     ensures memory { IfErr result (MemoryForOther kind.Array decoder.old.levels
         (R.source decoder.old.source)) }
     ensures inside { IfOk result (λ r. decoder.new.levels < decoder.old.levels) }
@@ -90,6 +96,8 @@ fn array_head_slow<R: Source>(decoder: &mut Decoder<R>) -> Result<Remaining>
         decoder.new.levels result }
     ensures taken { OnOk result (step.Advances R.source decoder.old decoder.new) }
     ensures no_form { IfErr result (λ e. ReportsNoForm (code_of e)) }
+    ensures fault { IfErr result (BeginningFault kind.Array R.refusals decoder.old.levels
+        (R.source decoder.old.source)) }
     ensures memory { IfErr result (MemoryForOther kind.Array decoder.old.levels
         (R.source decoder.old.source)) }
     ensures inside { IfOk result (λ r. decoder.new.levels < decoder.old.levels) }
@@ -124,6 +132,8 @@ pub fn more_items<R: Source>(decoder: &mut Decoder<R>, remaining: &mut Remaining
     ensures read { TakesMore R.refusals remaining.old remaining.new
         (R.source decoder.old.source) (R.source decoder.new.source) result }
     ensures counts { IfOk result (λ more. Counts remaining.old more remaining.new) }
+    ensures fault { IfErr result (ReportsFault R.refusals
+        (λ l. next_at end_in_array (remaining_of remaining.old)) (R.source decoder.old.source)) }
     ensures no_form { IfErr result (λ e. ReportsNoForm (code_of e)) }
     ensures memory { IfErr result (λ e. code_of e ≢ OutOfMemory) }
     ensures settings { SameSettings decoder.old decoder.new }
@@ -191,6 +201,8 @@ pub fn map_head<R: Source>(decoder: &mut Decoder<R>) -> Result<Remaining>
         decoder.new.levels result }
     ensures taken { OnOk result (step.Advances R.source decoder.old decoder.new) }
     ensures no_form { IfErr result (λ e. ReportsNoForm (code_of e)) }
+    ensures fault { IfErr result (BeginningFault kind.Map R.refusals decoder.old.levels
+        (R.source decoder.old.source)) }
     ensures memory { IfErr result (MemoryForOther kind.Map decoder.old.levels
         (R.source decoder.old.source)) }
     ensures inside { IfOk result (λ r. decoder.new.levels < decoder.old.levels) }
@@ -214,6 +226,8 @@ fn map_head_slow<R: Source>(decoder: &mut Decoder<R>) -> Result<Remaining>
         decoder.new.levels result }
     ensures taken { OnOk result (step.Advances R.source decoder.old decoder.new) }
     ensures no_form { IfErr result (λ e. ReportsNoForm (code_of e)) }
+    ensures fault { IfErr result (BeginningFault kind.Map R.refusals decoder.old.levels
+        (R.source decoder.old.source)) }
     ensures memory { IfErr result (MemoryForOther kind.Map decoder.old.levels
         (R.source decoder.old.source)) }
     ensures inside { IfOk result (λ r. decoder.new.levels < decoder.old.levels) }
@@ -301,6 +315,9 @@ pub fn more_pairs<R: Source>(decoder: &mut Decoder<R>, remaining: &mut Remaining
         (TakesMorePairs R.refusals (formats_of decoder.old.formats)
         remaining.old remaining.new
         (R.source decoder.old.source) (R.source decoder.new.source)) result }
+    ensures fault { IfErr result (ReportsWhy R.refusals
+        (λ l. pair_front (formats_of decoder.old.formats) (remaining_of remaining.old))
+        (R.source decoder.old.source) decoder.new.refusal) }
     ensures cases { IfErr result (λ r. (e : Error) → IsErrorOf decoder.new.refusal r e
         → HasCase (R.source decoder.old.source) e
         (key_cases (formats_of decoder.old.formats) remaining.old)) }

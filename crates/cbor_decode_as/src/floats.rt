@@ -1,6 +1,6 @@
 //! Floats as numbers.
 
-ghost use Rattle.std.specs.Prelude.{IfErr, OnOk};
+ghost use Rattle.std.specs.Prelude.{IfErr, OnOk, OnSome};
 ghost use Rattle.cbor_model.specs.Readable.{PassesTags};
 ghost use Rattle.cbor_io.specs.Error.{code_of};
 ghost use Rattle.cbor_decode.specs.Decoder.{SameSettings};
@@ -19,6 +19,35 @@ use cbor_read::Source;
 use cbor_value::Float;
 use std::num::{f32_from_bits_with_nan, f64_from_bits_with_nan};
 
+/// Reads a float of 64 bits that is whole at hand, without tags. None where another item comes, or
+/// its end isn't at hand; then nothing is taken.
+#[inline(always)]
+pub fn f64_at_hand<R: Source>(decoder: &mut Decoder<R>) -> Option<f64>
+    ensures read { call.TakesAtHand R.source R.refusals (PassesTags IsFloatOf)
+        decoder.old decoder.new result }
+    ensures taken { OnSome result (step.Advances R.source decoder.old decoder.new) }
+    ensures settings { SameSettings decoder.old decoder.new }
+{
+    match decoder.double() {
+        Some(bits) => Some(f64_from_bits_with_nan(bits)),
+        None => None,
+    }
+}
+
+/// Reads a float of 32 bits that is whole at hand, as [`f64_at_hand`] does.
+#[inline(always)]
+pub fn f32_at_hand<R: Source>(decoder: &mut Decoder<R>) -> Option<f32>
+    ensures read { call.TakesAtHand R.source R.refusals (PassesTags IsSingleOf)
+        decoder.old decoder.new result }
+    ensures taken { OnSome result (step.Advances R.source decoder.old decoder.new) }
+    ensures settings { SameSettings decoder.old decoder.new }
+{
+    match decoder.single() {
+        Some(bits) => Some(f32_from_bits_with_nan(bits)),
+        None => None,
+    }
+}
+
 /// Reads a float of 16, 32 or 64 bits, or an integer that an `f64` holds exactly, as the number that
 /// it is. What isn't whole is refused by its fault, and another item by a message.
 #[inline(always)]
@@ -31,10 +60,9 @@ pub fn read_f64<R: Source>(decoder: &mut Decoder<R>) -> Result<f64>
     ensures memory { IfErr result (call.TakesNoMemory R.source (PassesTags IsFloatOf) decoder.old) }
     ensures settings { SameSettings decoder.old decoder.new }
 {
-    match decoder.double() {
-        Ok(Some(bits)) => Ok(f64_from_bits_with_nan(bits)),
-        Ok(None) => other_f64(decoder),
-        Err(refused) => Err(decoder.error(refused)),
+    match f64_at_hand(decoder) {
+        Some(number) => Ok(number),
+        None => other_f64(decoder),
     }
 }
 
@@ -50,9 +78,8 @@ fn other_f64<R: Source>(decoder: &mut Decoder<R>) -> Result<f64>
     ensures settings { SameSettings decoder.old decoder.new }
 {
     match decoder.single() {
-        Ok(Some(bits)) => Ok(Float::Single(bits).to_f64()),
-        Ok(None) => f64_slow(decoder),
-        Err(refused) => Err(decoder.error(refused)),
+        Some(bits) => Ok(Float::Single(bits).to_f64()),
+        None => f64_slow(decoder),
     }
 }
 
@@ -97,10 +124,9 @@ pub fn read_f32<R: Source>(decoder: &mut Decoder<R>) -> Result<f32>
         (call.TakesNoMemory R.source (PassesTags IsSingleOf) decoder.old) }
     ensures settings { SameSettings decoder.old decoder.new }
 {
-    match decoder.single() {
-        Ok(Some(bits)) => Ok(f32_from_bits_with_nan(bits)),
-        Ok(None) => f32_slow(decoder),
-        Err(refused) => Err(decoder.error(refused)),
+    match f32_at_hand(decoder) {
+        Some(number) => Ok(number),
+        None => f32_slow(decoder),
     }
 }
 

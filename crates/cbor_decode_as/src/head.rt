@@ -13,7 +13,7 @@ ghost use Rattle.cbor_decode.specs.Memory.{MemoryOnly};
 ghost use Rattle.cbor_read.specs.Source.{asks_for};
 ghost use Rattle.cbor_decode_as.specs.TaggedHeads.{AsksBehind, TakesTaggedHead};
 ghost use Rattle.cbor_decode_as.specs.TaggedHeads.{item_inside, opened_at, opened_inside};
-ghost use Rattle.cbor_decode_as.specs.TaggedHeads.{RefusesBehind, behind_any};
+ghost use Rattle.cbor_decode_as.specs.TaggedHeads.{IsMismatch, RefusesBehind, behind_any};
 ghost use Rattle.cbor_decode_as.specs.Takes.{formats_of, raws};
 ghost use Rattle.cbor_decode.specs.Steps as step;
 
@@ -97,6 +97,7 @@ pub(crate) fn tagged_head_inside<R: Source>(decoder: &mut Decoder<R>) -> Done<He
 #[cold]
 #[inline(never)]
 pub fn mismatch<R: Source>(decoder: &mut Decoder<R>, head: Head, message: &str) -> Error
+    ensures told { IsMismatch head (R.source decoder.old.source).offset result }
     ensures no_form { ReportsNoForm (code_of result) }
     ensures memory { code_of result ≡ OutOfMemory → head ≢ Break }
     ensures source { decoder.new.source ≡ decoder.old.source }

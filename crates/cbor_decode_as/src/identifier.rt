@@ -1,18 +1,22 @@
 //! What names a field of a struct, or a variant of an enum.
 
-ghost use Rattle.std.specs.Prelude.{◌≡◌, ◌<◌, ◌≤◌, length, take, IfOk, IfErr, IfSome, OnOk};
+ghost use Rattle.std.specs.Prelude.{◌≡◌, ◌<◌, ◌≤◌, true, length, take, Some, None};
+ghost use Rattle.std.specs.Prelude.{IfOk, IfErr, IfSome, OnOk};
 ghost use Rattle.std.specs.Str.{IsUtf8};
 ghost use Rattle.cbor_io.specs.declared.error.Error.{Error};
-ghost use Rattle.cbor_read.specs.Source.{part_bytes};
+ghost use Rattle.cbor_read.specs.Source.{asks_for, part_bytes};
 ghost use Rattle.cbor_model.specs.Readable.{PassesTags};
 ghost use Rattle.cbor_decode.specs.Decoder.{SameSettings};
-ghost use Rattle.cbor_decode.specs.Gives.{ReportsNoForm, ReportsNoKey};
+ghost use Rattle.cbor_decode.specs.Gives.{ReportsNoForm, ReportsNoKey, ReportsWhy};
+ghost use Rattle.cbor_decode.specs.Memory.{MemoryOnly};
 ghost use Rattle.cbor_decode.specs.declared.head.Head.TheVariants.{Bytes, Text};
 ghost use Rattle.cbor_io.specs.Error.{code_of};
 ghost use Rattle.cbor_decode_as.specs.Identifiers.{IsIdentifier, IsPlace, place_of, texts};
 ghost use Rattle.cbor_decode_as.specs.Identifiers.{IsMadeBy, IsShortName, NamesNoKey, NamesText};
 ghost use Rattle.cbor_decode_as.specs.Identifiers.{TakesBytesName, TakesName};
-ghost use Rattle.cbor_decode_as.specs.Strings.{IsMadeOf, IsNoKey};
+ghost use Rattle.cbor_decode_as.specs.Identifiers.{AsksForName, IsNoName, IsWhyOf, IsWhyOfHead};
+ghost use Rattle.cbor_decode_as.specs.Identifiers.{NamesFault, NamesFront, NamesOnly};
+ghost use Rattle.cbor_decode_as.specs.Strings.{IsMadeOf, IsNoKey, asks_head, behind_string};
 ghost use Rattle.cbor_decode_as.specs.Takes.{OnceMade};
 ghost use Rattle.cbor_decode.specs.Steps as step;
 ghost use Rattle.cbor_decode_as.specs.DecoderCalls as call;
@@ -153,6 +157,7 @@ fn place_of_text_part(
 #[inline(never)]
 fn kept<R: Source>(decoder: &mut Decoder<R>, unread: Unread) -> Why
     ensures kept { (e : Error) → IsMadeBy decoder.new.refusal result e → IsMadeOf unread e }
+    ensures same { IsWhyOf unread decoder.new.refusal result }
     ensures source { decoder.new.source ≡ decoder.old.source }
     ensures no_key { IsNoKey unread → NamesNoKey decoder.new.refusal result }
     ensures settings { SameSettings decoder.old decoder.new }
@@ -167,6 +172,8 @@ fn kept<R: Source>(decoder: &mut Decoder<R>, unread: Unread) -> Why
 #[cold]
 #[inline(never)]
 pub(crate) fn no_name<R: Source>(decoder: &mut Decoder<R>, head: Head) -> Why
+    ensures why { IsWhyOfHead head (R.source decoder.old.source).offset decoder.new.refusal
+        result }
     ensures no_key { NamesNoKey decoder.new.refusal result }
     ensures source { decoder.new.source ≡ decoder.old.source }
     ensures settings { SameSettings decoder.old decoder.new }
@@ -203,6 +210,10 @@ fn definite_name<'de, R: Read<'de>>(
     ensures read { TakesName R.refusals (texts names.now) (Text (Some n))
         (R.source decoder.old.source) (R.source decoder.new.source)
         decoder.new.refusal result }
+    ensures fault { IfErr result (ReportsWhy R.refusals (behind_string (Text (Some n)))
+        (R.source decoder.old.source) decoder.new.refusal) }
+    ensures memory { IfErr result (MemoryOnly
+        (asks_head (asks_for R.refusals R.lends) (Text (Some n)) ≡ true) decoder.new.refusal) }
     ensures below { IfOk result (λ place. IfSome place (λ i. i < length names.now)) }
     ensures no_key { IfErr result (ReportsNoKey decoder.new.refusal) }
     ensures settings { SameSettings decoder.old decoder.new }
@@ -229,6 +240,10 @@ fn name_slow<'de, R: Read<'de>>(
     ensures read { TakesName R.refusals (texts names.now) (Text (Some n))
         (R.source decoder.old.source) (R.source decoder.new.source)
         decoder.new.refusal result }
+    ensures fault { IfErr result (ReportsWhy R.refusals (behind_string (Text (Some n)))
+        (R.source decoder.old.source) decoder.new.refusal) }
+    ensures memory { IfErr result (MemoryOnly
+        (asks_head (asks_for R.refusals R.lends) (Text (Some n)) ≡ true) decoder.new.refusal) }
     ensures below { IfOk result (λ place. IfSome place (λ i. i < length names.now)) }
     ensures no_key { IfErr result (ReportsNoKey decoder.new.refusal) }
     ensures settings { SameSettings decoder.old decoder.new }
@@ -252,6 +267,10 @@ fn joined_name<'de, R: Read<'de>>(decoder: &mut Decoder<R>, names: &[&str]) -> D
     ensures read { TakesName R.refusals (texts names.now) (Text None)
         (R.source decoder.old.source) (R.source decoder.new.source)
         decoder.new.refusal result }
+    ensures fault { IfErr result (ReportsWhy R.refusals (behind_string (Text None))
+        (R.source decoder.old.source) decoder.new.refusal) }
+    ensures memory { IfErr result (MemoryOnly
+        (asks_head (asks_for R.refusals R.lends) (Text None) ≡ true) decoder.new.refusal) }
     ensures below { IfOk result (λ place. IfSome place (λ i. i < length names.now)) }
     ensures no_key { IfErr result (ReportsNoKey decoder.new.refusal) }
     ensures settings { SameSettings decoder.old decoder.new }
@@ -273,6 +292,10 @@ pub(crate) fn text_name<'de, R: Read<'de>>(
     ensures read { TakesName R.refusals (texts names.now) (Text n)
         (R.source decoder.old.source) (R.source decoder.new.source)
         decoder.new.refusal result }
+    ensures fault { IfErr result (ReportsWhy R.refusals (behind_string (Text n))
+        (R.source decoder.old.source) decoder.new.refusal) }
+    ensures memory { IfErr result (MemoryOnly
+        (asks_head (asks_for R.refusals R.lends) (Text n) ≡ true) decoder.new.refusal) }
     ensures below { IfOk result (λ place. IfSome place (λ i. i < length names.now)) }
     ensures no_key { IfErr result (ReportsNoKey decoder.new.refusal) }
     ensures settings { SameSettings decoder.old decoder.new }
@@ -292,6 +315,10 @@ pub(crate) fn bytes_name<'de, R: Read<'de>>(
     ensures read { TakesBytesName R.refusals (texts names.now) (Bytes n)
         (R.source decoder.old.source) (R.source decoder.new.source)
         decoder.new.refusal result }
+    ensures fault { IfErr result (NamesFault ⊥ R.refusals (behind_string (Bytes n))
+        (R.source decoder.old.source) decoder.new.refusal) }
+    ensures memory { IfErr result (NamesOnly
+        (asks_head (asks_for R.refusals R.lends) (Bytes n) ≡ true) decoder.new.refusal) }
     ensures below { IfOk result (λ place. IfSome place (λ i. i < length names.now)) }
     ensures no_key { IfErr result (NamesNoKey decoder.new.refusal) }
     ensures settings { SameSettings decoder.old decoder.new }
@@ -303,7 +330,8 @@ pub(crate) fn bytes_name<'de, R: Read<'de>>(
 }
 
 /// Reads an identifier: a number from 0, which is a place among the names, or a name as a text or
-/// a byte string. None is one that no name is of. It takes no memory of its own.
+/// a byte string. None is one that no name is of. It takes no memory but what the source takes to
+/// hand out the string, or to join its chunks.
 ///
 /// Another item is [`Why::Other`]. What isn't whole, a text that isn't UTF-8 (`InvalidUtf8`), and
 /// a break (`UnexpectedCode`) are refused, and what the source refuses.
@@ -316,6 +344,10 @@ pub fn identifier<'de, R: Read<'de>>(
         (call.TakesItem R.source R.refusals (PassesTags (IsIdentifier (texts names.now)))
         decoder.old decoder.new) result }
     ensures taken { OnOk result (step.Advances R.source decoder.old decoder.new) }
+    ensures fault { IfErr result (NamesFront IsNoName R.refusals decoder.old.levels
+        (R.source decoder.old.source) decoder.new.refusal) }
+    ensures memory { IfErr result (NamesOnly (AsksForName (asks_for R.refusals R.lends)
+        decoder.old.levels (R.source decoder.old.source)) decoder.new.refusal) }
     ensures below { IfOk result (λ place. IfSome place (λ i. i < length names.now)) }
     ensures no_key { IfErr result (NamesNoKey decoder.new.refusal) }
     ensures settings { SameSettings decoder.old decoder.new }
@@ -336,6 +368,10 @@ fn identifier_slow<'de, R: Read<'de>>(
         (call.TakesItem R.source R.refusals (PassesTags (IsIdentifier (texts names.now)))
         decoder.old decoder.new) result }
     ensures taken { OnOk result (step.Advances R.source decoder.old decoder.new) }
+    ensures fault { IfErr result (NamesFront IsNoName R.refusals decoder.old.levels
+        (R.source decoder.old.source) decoder.new.refusal) }
+    ensures memory { IfErr result (NamesOnly (AsksForName (asks_for R.refusals R.lends)
+        decoder.old.levels (R.source decoder.old.source)) decoder.new.refusal) }
     ensures below { IfOk result (λ place. IfSome place (λ i. i < length names.now)) }
     ensures no_key { IfErr result (NamesNoKey decoder.new.refusal) }
     ensures settings { SameSettings decoder.old decoder.new }

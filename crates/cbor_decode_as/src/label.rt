@@ -3,7 +3,9 @@
 ghost use Rattle.std.specs.Prelude.{◌≡◌, ◌≢◌, ◌<◌, length, IfOk, IfErr, IfSome, MatchBool, OnOk};
 ghost use Rattle.cbor_model.specs.Readable.{PassesTags};
 ghost use Rattle.cbor_decode.specs.Decoder.{SameSettings};
+ghost use Rattle.cbor_read.specs.Source.{asks_for};
 ghost use Rattle.cbor_decode_as.specs.Identifiers.{IsLabel, IsMadeBy, IsPlace, NamesNoKey};
+ghost use Rattle.cbor_decode_as.specs.Identifiers.{AsksForName, IsNoLabel, NamesFront, NamesOnly};
 ghost use Rattle.cbor_decode_as.specs.Takes.{OnceMade};
 ghost use Rattle.cbor_decode.specs.Steps as step;
 ghost use Rattle.cbor_decode_as.specs.DecoderCalls as call;
@@ -38,7 +40,8 @@ pub fn place_of_label(labels: &[i64], label: i128) -> Option<usize>
 }
 
 /// Reads a label, an integer: its place among these. None is one that isn't among them, or a text
-/// or a byte string, which is no label. It takes no memory of its own.
+/// or a byte string, which is no label. It takes memory as
+/// [`identifier`](crate::identifier::identifier) does.
 ///
 /// Another item is [`Why::Other`](crate::identifier::Why::Other). What isn't whole, a text that
 /// isn't UTF-8 (`InvalidUtf8`), and a break (`UnexpectedCode`) are refused, and what the source
@@ -49,6 +52,10 @@ pub fn label<'de, R: Read<'de>>(decoder: &mut Decoder<R>, labels: &[i64]) -> Loo
         (call.TakesItem R.source R.refusals (PassesTags (IsLabel labels.now))
         decoder.old decoder.new) result }
     ensures taken { OnOk result (step.Advances R.source decoder.old decoder.new) }
+    ensures fault { IfErr result (NamesFront IsNoLabel R.refusals decoder.old.levels
+        (R.source decoder.old.source) decoder.new.refusal) }
+    ensures memory { IfErr result (NamesOnly (AsksForName (asks_for R.refusals R.lends)
+        decoder.old.levels (R.source decoder.old.source)) decoder.new.refusal) }
     ensures below { IfOk result (λ place. IfSome place (λ i. i < length labels.now)) }
     ensures no_key { IfErr result (NamesNoKey decoder.new.refusal) }
     ensures settings { SameSettings decoder.old decoder.new }

@@ -216,11 +216,41 @@ fn own_string<R: Source>(decoder: &mut Decoder<R>) -> Lookup<String>
     }
 }
 
+// The same, once its source has tried to bring it to hand.
+#[inline(always)]
+fn gathered_text<R: Source>(decoder: &mut Decoder<R>) -> Option<String>
+    ensures read { call.TakesGathered R.source R.refusals
+        (PassesTags (λ r s. IsText r (string_bytes s))) decoder.old decoder.new result }
+    ensures taken { OnSome result (step.Advances R.source decoder.old decoder.new) }
+    ensures settings { SameSettings decoder.old decoder.new }
+{
+    if !decoder.gather_text() {
+        return None;
+    }
+    text_at_hand(decoder)
+}
+
 /// Reads a text, or a byte string that is UTF-8, to memory of its own.
 ///
 /// Another item, as a byte string that isn't UTF-8, is refused with [`NO_STRING`]; a text that
 /// isn't UTF-8 with `InvalidUtf8`, and what isn't whole, of any kind, by its fault.
 pub fn read_string<R: Source>(decoder: &mut Decoder<R>) -> Result<String>
+    ensures read { call.TakesItem R.source R.refusals
+        (PassesTags (λ r s. IsText r (string_bytes s))) decoder.old decoder.new result }
+    ensures taken { OnOk result (step.Advances R.source decoder.old decoder.new) }
+    ensures fault { IfErr result (call.RefusesWhole R.source R.refusals decoder.old) }
+    ensures no_form { IfErr result (λ e. ReportsNoForm (code_of e)) }
+    ensures settings { SameSettings decoder.old decoder.new }
+{
+    match gathered_text(decoder) {
+        Some(text) => Ok(text),
+        None => read_text_or_bytes(decoder),
+    }
+}
+
+// The same, as its bytes come.
+#[inline(always)]
+fn read_text_or_bytes<R: Source>(decoder: &mut Decoder<R>) -> Result<String>
     ensures read { call.TakesItem R.source R.refusals
         (PassesTags (λ r s. IsText r (string_bytes s))) decoder.old decoder.new result }
     ensures taken { OnOk result (step.Advances R.source decoder.old decoder.new) }

@@ -4,13 +4,15 @@ ghost use Rattle.std.specs.Prelude.{◌≡◌, ◌≢◌, ◌+◌, ◌<◌, leng
 ghost use Rattle.std.specs.Prelude.{OnOk, OnErr, IfOk, IfErr};
 ghost use Rattle.cbor_io.specs.Error.{code_of, offset_of, HasNoOffset};
 ghost use Rattle.cbor_io.specs.declared.error.ErrorCode.TheVariants.{OutOfMemory};
+ghost use Rattle.cbor_read.specs.Source.{asks_for};
 ghost use Rattle.cbor_decode.specs.Decoder.{SameSettings};
 ghost use Rattle.cbor_decode.specs.Gives.{Stopped, ReportsNoForm, ReportsNoKey, ReportsNoMemory};
 ghost use Rattle.cbor_decode_as.specs.Cases.{HasCase, IsEnumCode, enum_cases, form_cases};
 ghost use Rattle.cbor_decode_as.specs.Cases.{untagged_cases};
 ghost use Rattle.cbor_decode_as.specs.Enums.{IsName};
 ghost use Rattle.cbor_decode_as.specs.Identifiers.{texts};
-ghost use Rattle.cbor_decode_as.specs.Takes.{formats_of};
+ghost use Rattle.cbor_decode_as.specs.Strings.{IsAskedString};
+ghost use Rattle.cbor_decode_as.specs.Takes.{ItemFault, formats_of};
 ghost use Rattle.cbor_decode_as.specs.BeginsEnum.{TakesVariantHead, TakesForm, TakesFormOf};
 ghost use Rattle.cbor_decode_as.specs.Variants.{HasNoTag, HasShape, IsAlone, IsInside};
 ghost use Rattle.cbor_decode_as.specs.Variants.{TakesShape, TakesShaped, TakesVariant};
@@ -345,6 +347,10 @@ fn variant_name<'de, R: Read<'de>>(decoder: &mut Decoder<R>, names: &[&str]) -> 
     ensures read { call.TakesItem R.source R.refusals (IsName (texts names.now))
         decoder.old decoder.new result }
     ensures taken { OnOk result (step.Advances R.source decoder.old decoder.new) }
+    ensures fault { IfErr result (ItemFault R.refusals decoder.old.levels
+        (R.source decoder.old.source)) }
+    ensures memory { IfErr result (call.MemoryFor R.source
+        (IsAskedString (asks_for R.refusals R.lends)) (IsName (texts names.now)) decoder.old) }
     ensures no_form { IfErr result (λ e. ReportsNoForm (code_of e)) }
     ensures below { IfOk result (λ i. i < length names.now) }
     ensures settings { SameSettings decoder.old decoder.new }

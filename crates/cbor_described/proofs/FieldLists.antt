@@ -9,17 +9,17 @@ use Rattle.cbor_io.specs.Error.{code_of, offset_of}
 use Rattle.cbor_io.specs.declared.error.Error.{Error}
 use Rattle.cbor_io.specs.declared.error.ErrorCode.{ErrorCode}
 use Rattle.cbor_io.specs.declared.read_error.ReadErrorCode.{ReadErrorCode}
-use Rattle.cbor_decode.specs.Gives.{Step}
+use Rattle.cbor_decode.specs.Gives.{Limits, Step}
 use Rattle.cbor_decode.specs.declared.formats.Formats.{Formats}
 use Rattle.cbor_decode.specs.declared.cursor.Remaining.{Remaining}
 use Rattle.cbor_de.specs.Fields.{Slots, none_yet, AreHeld}
-use Rattle.cbor_described.specs.FieldLists.{over, NamesLacking, ReadBefore, slots_over, FieldTaken, FieldRefused, TakesSlot, TakesField}
+use Rattle.cbor_described.specs.FieldLists.{over, NamesLacking, ReadBefore, slots_over, FieldTaken, FieldRefused, MemoryForField, MemoryForSlot, TakesSlot, TakesField}
 use Rattle.cbor_decode_as.specs.MapAccesses.{IsMapHead}
 use Rattle.cbor_model.specs.Raw.{Raw}
 use Rattle.cbor_de.specs.Structs.{FieldOf, IsAny, IsMapOf, MeansOneField}
 use Rattle.cbor_decode_as.specs.Takes.{TakesItem, formats_of, raws, IsRead, IsNotRead, Refuses}
 use Rattle.cbor_decode_as.proofs.facts.Refusals.{refuses_on}
-use Rattle.cbor_decode_as.proofs.facts.Readings.{refuses_map}
+use Rattle.cbor_decode_as.proofs.facts.Readings.{OutOfMemoryAt, refuses_map}
 use Rattle.cbor_de.specs.declared.field.Field.{Field}
 use Rattle.cbor_de.specs.declared.field.Field.TheVariants.{Known}
 use Rattle.cbor_de.proofs.facts.Structs.{Has, LacksAt, ValueAt, reads_at, put}
@@ -130,6 +130,64 @@ pub twice_behind : {S T C : Type 0} (view : S → T) (fields : C → List (Field
     → IfErr r (λ e. (k : C) → ReadBefore (front k ++ over view (fields k)) i (joined (front k) (over view (fields k)) (fs k) (slots_over view (fields k) (slots k))) → P e)
 twice_behind view fields front i j is fs slots P (Ok u) h = h
 twice_behind view fields front i j is fs slots P (Err e) h = λ k before. h k (read_behind view (fields k) (front k) i j (is k) (fs k) (slots k) before)
+
+-- ---- memory
+
+-- what is asked for those behind these
+abbrev behind_these : {S : Type 0} → List (FieldOf S) → (ℕ → Raw → Type 0) → ℕ → Raw → Type 0
+behind_these [] asks = asks
+behind_these (d ∷ front) asks = behind_these front (λ j. asks (suc j))
+
+module _ (f : model.Formats) (levels : ℕ) (s : Input) (e : Error) where
+  memory_over : {S T : Type 0} (view : S → T) (fields : List (FieldOf T)) (asks : ℕ → Raw → Type 0) (i : ℕ) (slots : Slots fields)
+      → MemoryForField f levels asks fields i slots s e → MemoryForField f levels asks (over view fields) i (slots_over view fields slots) s e
+  memory_over view [] asks i slots h = h
+  memory_over view (d ∷ fields) asks zero slots h = h
+  memory_over view (d ∷ fields) asks (suc i) slots h = memory_over view fields (λ j. asks (suc j)) i slots.1 h
+
+  pub slot_memory : {S : Type 0} (front : List (FieldOf S)) (d : FieldOf S) (back : List (FieldOf S)) (asks : ℕ → Raw → Type 0) (i : ℕ) → i ≡ length front → (fs : Slots front) (o : Option d.Value) (bs : Slots back)
+      → MemoryForSlot f levels (asks (length front)) d.reads o s e → MemoryForField f levels asks (front ++ d ∷ back) i (joined front (d ∷ back) fs (o, bs)) s e
+  slot_memory [] d back asks zero is fs o bs h = h
+  slot_memory [] d back asks (suc i) is fs o bs h = absurd (omega (arith, is))
+  slot_memory (x ∷ front) d back asks zero is fs o bs h = absurd (omega (arith, is))
+  slot_memory (x ∷ front) d back asks (suc i) is fs o bs h = slot_memory front d back (λ j. asks (suc j)) i (omega (arith, is)) fs.1 o bs h
+
+  pub memory_behind : {S T : Type 0} (view : S → T) (fields : List (FieldOf T)) (front : List (FieldOf S)) (asks : ℕ → Raw → Type 0) (i j : ℕ) → i ≡ length front + j → (fs : Slots front) (old : Slots fields)
+      → MemoryForField f levels (behind_these front asks) fields j old s e → MemoryForField f levels asks (front ++ over view fields) i (joined front (over view fields) fs (slots_over view fields old)) s e
+  memory_behind view fields [] asks i j is fs old h =
+      let same : j ≡ i = omega (arith, is) in
+      memory_over view fields asks i old (subst (λ (i : ℕ). MemoryForField f levels asks fields i old s e) same h)
+  memory_behind view fields (d ∷ front) asks zero j is fs old h = absurd (omega (arith, is))
+  memory_behind view fields (d ∷ front) asks (suc i) j is fs old h = memory_behind view fields front (λ j. asks (suc j)) i j (omega (arith, is)) fs.1 old h
+
+-- what is said of it for the i-th field
+abbrev pub FieldAsks : {S : Type 0} → model.Formats → ℕ → Limits → List ℕ → (ℕ → Raw → Type 0) → (fields : List (FieldOf S)) → ℕ → Slots fields → Type 0
+FieldAsks f levels l bs asks [] i slots = (v : Unit {0}) (after : List ℕ) → (got : IsRead IsAny (item_at (raws f l) levels bs) v after) → asks i got.item
+FieldAsks f levels l bs asks (d ∷ fields) zero slots = is_some slots.0 ≡ false → (v : d.Value) (after : List ℕ) → (got : IsRead d.reads (item_at (raws f l) levels bs) v after) → asks 0 got.item
+FieldAsks f levels l bs asks (d ∷ fields) (suc i) slots = FieldAsks f levels l bs (λ j. asks (suc j)) fields i slots.1
+
+module _ {S : Type 0} (f : model.Formats) (levels : ℕ) where
+  pub field_asks : (asks : ℕ → Raw → Type 0) (fields : List (FieldOf S)) (i : ℕ) (slots : Slots fields) (s : Input) (e : Error) → MemoryForField f levels asks fields i slots s e → OutOfMemoryAt (λ l bs. FieldAsks f levels l bs asks fields i slots) s e
+  field_asks asks [] i slots s e h = h
+  field_asks asks (d ∷ fields) zero slots s e h = λ out bs reports none. h none out bs reports
+  field_asks asks (d ∷ fields) (suc i) slots s e h = field_asks (λ j. asks (suc j)) fields i slots.1 s e h
+
+  -- of the value that is there
+  pub value_asks : (asks : ℕ → Raw → Type 0) (fields : List (FieldOf S)) (i : ℕ) (slots : Slots fields) (l : Limits) (bs after : List ℕ) (r : Raw) → item_at (raws f l) levels bs ≡ Ok (r, after)
+      → (Has true fields i slots → ⊥) → (Has false fields i slots → (v : ValueAt fields i) × reads_at fields i r v) → FieldAsks f levels l bs asks fields i slots → asks i r
+  value_asks asks [] i slots l bs after r is twice value h = h tt after (record { item = r; is = is; means = tt })
+  value_asks asks (d ∷ fields) zero slots l bs after r is twice value h = elim (bool_cases (is_some slots.0)) [
+    | inl some ↦ absurd (twice some)
+    | inr none ↦ (let v = value none in h none v.0 after (record { item = r; is = is; means = v.1 }))
+  ]
+  value_asks asks (d ∷ fields) (suc i) slots l bs after r is twice value h = value_asks (λ j. asks (suc j)) fields i slots.1 l bs after r is twice value h
+
+-- what a call ran out of memory for where nothing was at hand
+pub memory_from : {S H : Type 0} (fields : Formats → List (FieldOf S)) (slots : (f : Formats) → H → Slots (fields f)) (g : Formats) (left : ℕ) (asks : ℕ → Raw → Type 0) (held kept : H) → kept ≡ held → (s m : Input) → m ≡ s → (i : ℕ) (e : Error)
+    → MemoryForField (formats_of g) left asks (fields g) i (slots g kept) m e → MemoryForField (formats_of g) left asks (fields g) i (slots g held) s e
+memory_from {H = H} fields slots g left asks held kept same s m here i e h =
+    subst (λ (x : H). MemoryForField (formats_of g) left asks (fields g) i (slots g x) s e) same
+    (subst (λ (x : Input). MemoryForField (formats_of g) left asks (fields g) i (slots g kept) x e) here h)
 
 -- ---- a field that is at hand
 

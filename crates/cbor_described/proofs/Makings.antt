@@ -1,5 +1,5 @@
 -- What is read by a description of its parts.
-use Rattle.std.proofs.Common.{◌≡◌, ℕ, Bool, Ok, Err, sym, subst}
+use Rattle.std.proofs.Common.{◌≡◌, ℕ, Bool, IfErr, Result, Ok, Err, sym, subst}
 use Rattle.cbor_model.specs.Formats as model
 use Rattle.cbor_model.specs.Raw.{Raw}
 use Rattle.cbor_model.specs.Reader.{item_at}
@@ -8,7 +8,7 @@ use Rattle.cbor_io.specs.Error.{code_of, offset_of}
 use Rattle.cbor_io.specs.declared.error.Error.{Error}
 use Rattle.cbor_io.specs.declared.read_error.ReadErrorCode.{ReadErrorCode}
 use Rattle.cbor_decode.proofs.facts.Steps.{step_map}
-use Rattle.cbor_decode_as.specs.Takes.{TakesItem, raws, IsRead, IsNotRead}
+use Rattle.cbor_decode_as.specs.Takes.{MemoryFor, TakesItem, raws, IsRead, IsNotRead}
 use Rattle.cbor_decode_as.proofs.facts.Readings.{refuses_map}
 
 -- Parts that are read by these names, or keys, are read as what is made of them, and where none are nothing is.
@@ -38,3 +38,23 @@ module _ {A B : Type 0} (one : Raw → A → Type 0) (two : Raw → B → Type 0
   pub not_read_as : (e : Error) → ((r : Raw) (y : B) → two r y → (x : A) × one r x) → TakesItem {A = A} allowed f one levels s t (Err e) → TakesItem {A = B} allowed f two levels s t (Err e)
   not_read_as e back = refuses_map allowed s (code_of e) (offset_of e) (λ l bs. IsNotRead one (item_at (raws f l) levels bs)) (λ l bs. IsNotRead two (item_at (raws f l) levels bs))
       (λ l bs none y rest read. let x = back read.item y read.means in none x.0 rest (record { item = read.item; is = read.is; means = x.1 }))
+
+-- of what is said of an error
+pub err_map : {A : Type 0} (P Q : Error → Type 0) (r : Result A Error) → ((e : Error) → P e → Q e) → IfErr r P → IfErr r Q
+err_map P Q (Ok x) on h = tt
+err_map P Q (Err e) on h = on e h
+
+-- ---- memory
+
+-- Where it ran out, the item is one for which it may be asked; also of what is made of the parts.
+module _ (f : model.Formats) (levels : ℕ) (s : Input) (e : Error) where
+  pub memory_made : {S P : Type 0} (parts : S → P) (asks : Raw → Type 0) (reads : Raw → P → Type 0) → MemoryFor asks f reads levels s e → MemoryFor asks f (λ r x. reads r (parts x)) levels s e
+  memory_made parts asks reads h out bs reports x rest got = h out bs reports (parts x) rest (record { item = got.item; is = got.is; means = got.means })
+
+  pub memory_named : {S P K : Type 0} (parts : S → P) (asks : K → Raw → Type 0) (reads : K → Raw → P → Type 0) {given names : K} → given ≡ names → MemoryFor (asks given) f (reads given) levels s e → MemoryFor (asks names) f (λ r x. reads names r (parts x)) levels s e
+  memory_named {K = K} parts asks reads {names = names} named h = memory_made parts (asks names) (reads names) (subst (λ (k : K). MemoryFor (asks k) f (reads k) levels s e) named h)
+
+  pub memory_as : {A B : Type 0} (asks : Raw → Type 0) (one : Raw → A → Type 0) (two : Raw → B → Type 0) → ((r : Raw) (y : B) → two r y → (x : A) × one r x) → MemoryFor asks f one levels s e → MemoryFor asks f two levels s e
+  memory_as asks one two back h out bs reports y rest got =
+      let x = back got.item y got.means in
+      h out bs reports x.0 rest (record { item = got.item; is = got.is; means = x.1 })

@@ -13,7 +13,7 @@ use Rattle.cbor_read.specs.Source.{Input}
 use Rattle.cbor_decode.specs.Gives.{Step}
 use Rattle.cbor_de.specs.Fields.{Slots, Lacks}
 use Rattle.cbor_de.specs.Structs.{FieldOf, field_or, IsAny, missing_text}
-use Rattle.cbor_decode_as.specs.Takes.{raws, IsRead, IsNotRead, Refuses}
+use Rattle.cbor_decode_as.specs.Takes.{raws, IsRead, IsNotRead, MemoryFor, Refuses}
 
 -- the fields of a T, as those of what a T is a view of
 abbrev pub over : {S T : Type 0} → (S → T) → List (FieldOf T) → List (FieldOf S)
@@ -79,3 +79,19 @@ module _ {S : Type 0} (f : Formats) (levels : ℕ) where
       → Slots fields → Input → Input → Result (Unit {0}) Error → Type 0
   TakesField refusals fields i old new s t (Ok u) = FieldTaken fields i old new s t
   TakesField refusals fields i old new s t (Err e) = FieldRefused refusals fields i old s t e
+
+-- ---- memory
+
+-- Where memory ran out for the value of a field whose slot had none, it is one for which it may be asked.
+abbrev pub MemoryForSlot : {A : Type 0} → Formats → ℕ → (Raw → Type 0) → (Raw → A → Type 0) → Option A
+    → Input → Error → Type 0
+MemoryForSlot f levels asks reads old s e = is_some old ≡ false → MemoryFor asks f reads levels s e
+
+-- The same of the i-th field, where this says of each place for which values it may be asked. Where the
+-- list is shorter, an item is passed over.
+abbrev pub MemoryForField : {S : Type 0} → Formats → ℕ → (ℕ → Raw → Type 0) → (fields : List (FieldOf S)) → ℕ
+    → Slots fields → Input → Error → Type 0
+MemoryForField f levels asks [] i old s e = MemoryFor (asks i) f IsAny levels s e
+MemoryForField f levels asks (d ∷ fields) zero old s e = MemoryForSlot f levels (asks 0) d.reads old.0 s e
+MemoryForField f levels asks (d ∷ fields) (suc i) old s e =
+    MemoryForField f levels (λ j. asks (suc j)) fields i old.1 s e

@@ -7,8 +7,11 @@ ghost use Rattle.std.specs.Option.{is_some};
 ghost use Rattle.cbor_model.specs.Readable.{Context};
 ghost use Rattle.cbor_parts.specs.Keys.{AreKeysOf, keys_of};
 ghost use Rattle.cbor_decode.specs.Decoder.{SameSettings};
+ghost use Rattle.cbor_read.specs.Source.{asks_for};
+ghost use Rattle.cbor_decode.specs.HasChunks.{AsksWhere, HasChunks};
 ghost use Rattle.cbor_described.specs.FieldLists.{FieldTaken, NamesLacking, TakesField, TakesSlot};
-ghost use Rattle.cbor_described.specs.FieldLists.{ReadBefore};
+ghost use Rattle.cbor_described.specs.FieldLists.{MemoryForField, MemoryForSlot, ReadBefore};
+ghost use Rattle.cbor_de.specs.StructMemory.{AsksForFields};
 ghost use Rattle.cbor_de.specs.Fields.{AreHeld, IsHeld, Lacks, none_yet};
 ghost use Rattle.cbor_de.specs.Structs.{IsAny, IsKeyed, IsMapOf, duplicate_text, missing_text};
 ghost use Rattle.cbor_io.specs.Error.{IsMessageOf, code_of};
@@ -30,7 +33,9 @@ use std::alloc::Global;
 // four and the list of the others.
 pub(crate) trait FieldList: Sized + Drop {
     ghost use Rattle.std.specs.Prelude.{List, ℕ};
+    ghost use Rattle.cbor_model.specs.Raw.{Raw};
     ghost use Rattle.cbor_model.specs.Readable.{Context};
+    ghost use Rattle.cbor_read.specs.Source.{Asks};
     ghost use Rattle.cbor_de.specs.Fields.{Slots};
     ghost use Rattle.cbor_de.specs.Forms.{WrongForms};
     ghost use Rattle.cbor_de.specs.Structs.{FieldOf};
@@ -48,6 +53,9 @@ pub(crate) trait FieldList: Sized + Drop {
 
     // By which codes the value of one of them may be refused for its form, and where.
     ghost wrong_forms: { WrongForms };
+
+    // For which values memory may be asked, of the field in each place.
+    ghost asks: { Asks → ℕ → Raw → Type 0 };
 
     // No field was read.
     fn none() -> Self::Slots
@@ -79,6 +87,10 @@ pub(crate) trait ReadFields<'de, R: Read<'de>>: FieldList {
             → IsMessageOf (Some (duplicate_text name.now)) (code_of e)) }
         ensures form { IfErr result
             (call.MayReport R.source (any_of key_form Self.wrong_forms) de.old) }
+        ensures memory { let c = context de.old.decoder.formats R.lends in
+            IfErr result (MemoryForField (formats_of de.old.decoder.formats)
+            de.old.decoder.levels (Self.asks (asks_for R.refusals R.lends)) (Self.fields c) i
+            (Self.slots c held.old) (R.source de.old.decoder.source)) }
         ensures forward { IfOk result (λ u. (R.source de.old.decoder.source).offset
             ≤ (R.source de.new.decoder.source).offset) }
         ensures settings { SameSettings de.old.decoder de.new.decoder };
@@ -111,6 +123,10 @@ pub(crate) trait ReadField<'de, R: Read<'de>>: FieldType {
         ensures twice { IfErr result (λ e. is_some slot.old ≡ true
             → IsMessageOf (Some (duplicate_text name.now)) (code_of e)) }
         ensures form { IfErr result (call.MayReport R.source Self.Of.wrong_forms de.old) }
+        ensures memory { IfErr result (MemoryForSlot (formats_of de.old.decoder.formats)
+            de.old.decoder.levels (Self.Of.asks_memory (asks_for R.refusals R.lends))
+            (Self.reads (context de.old.decoder.formats R.lends)) slot.old
+            (R.source de.old.decoder.source)) }
         ensures forward { IfOk result (λ u. (R.source de.old.decoder.source).offset
             ≤ (R.source de.new.decoder.source).offset) }
         ensures settings { SameSettings de.old.decoder de.new.decoder };
@@ -128,6 +144,7 @@ where
 impl FieldList for () {
     ghost use Rattle.std.specs.Prelude.{[]};
     ghost use Rattle.cbor_de.specs.Forms.{never};
+    ghost use Rattle.cbor_de.specs.StructMemory.{passed_over};
 
     type Slots = ();
 
@@ -138,6 +155,8 @@ impl FieldList for () {
     ghost slots = { λ c held. held };
 
     ghost wrong_forms = { never };
+
+    ghost asks = { passed_over };
 
     fn none() -> () {}
 
@@ -161,6 +180,7 @@ impl<A: FieldType, F: FieldList> FieldList for (A, F) {
     ghost use Rattle.cbor_de.specs.Forms.{any_of};
     ghost use Rattle.cbor_described.specs.FieldLists.{over, slots_over};
     ghost use Rattle.cbor_de.specs.Structs.{field_or};
+    ghost use Rattle.cbor_de.specs.StructMemory.{field_then};
 
     type Slots = (Option<A>, F::Slots);
 
@@ -172,6 +192,8 @@ impl<A: FieldType, F: FieldList> FieldList for (A, F) {
     ghost slots = { λ c held. (held.0, slots_over (λ p. p.1) (F.fields c) (F.slots c held.1)) };
 
     ghost wrong_forms = { any_of A.Of.wrong_forms F.wrong_forms };
+
+    ghost asks = { λ a. field_then (A.Of.asks_memory a) (F.asks a) };
 
     fn none() -> (Option<A>, F::Slots) {
         (None, F::none())
@@ -193,6 +215,7 @@ impl<A: FieldType, B: FieldType, C: FieldType, D: FieldType, F: FieldList> Field
     ghost use Rattle.cbor_de.specs.Forms.{any_of};
     ghost use Rattle.cbor_described.specs.FieldLists.{over, slots_over};
     ghost use Rattle.cbor_de.specs.Structs.{field_or};
+    ghost use Rattle.cbor_de.specs.StructMemory.{field_then};
 
     type Slots = (Option<A>, Option<B>, Option<C>, Option<D>, F::Slots);
 
@@ -220,6 +243,9 @@ impl<A: FieldType, B: FieldType, C: FieldType, D: FieldType, F: FieldList> Field
 
     ghost wrong_forms = { any_of A.Of.wrong_forms (any_of B.Of.wrong_forms (any_of C.Of.wrong_forms
         (any_of D.Of.wrong_forms F.wrong_forms))) };
+
+    ghost asks = { λ a. field_then (A.Of.asks_memory a) (field_then (B.Of.asks_memory a)
+        (field_then (C.Of.asks_memory a) (field_then (D.Of.asks_memory a) (F.asks a)))) };
 
     fn none() -> (Option<A>, Option<B>, Option<C>, Option<D>, F::Slots) {
         (None, None, None, None, F::none())
@@ -359,6 +385,10 @@ where
     ensures twice { IfErr result (λ e. is_some slot.old ≡ true
         → IsMessageOf (Some (duplicate_text name.now)) (code_of e)) }
     ensures form { IfErr result (call.MayReport R.source A.Of.wrong_forms de.old) }
+    ensures memory { IfErr result (MemoryForSlot (formats_of de.old.decoder.formats)
+        de.old.decoder.levels (A.Of.asks_memory (asks_for R.refusals R.lends))
+        (A.reads (context de.old.decoder.formats R.lends)) slot.old
+        (R.source de.old.decoder.source)) }
     ensures forward { IfOk result (λ u. (R.source de.old.decoder.source).offset
         ≤ (R.source de.new.decoder.source).offset) }
     ensures settings { SameSettings de.old.decoder de.new.decoder }
@@ -379,6 +409,8 @@ where
 fn skip_item<'de, R: Read<'de>>(de: &mut Deserializer<R>) -> Result<()>
     ensures read { call.TakesItem R.source R.refusals IsAny de.old de.new result }
     ensures form { IfErr result (call.MayReport R.source key_form de.old) }
+    ensures memory { IfErr result (call.MemoryFor R.source
+        (λ r. AsksWhere (asks_for R.refusals R.lends) (HasChunks r)) IsAny de.old) }
     ensures settings { SameSettings de.old.decoder de.new.decoder }
 {
     match IgnoredAny::deserialize(de) {
@@ -398,6 +430,11 @@ pub(crate) fn read_fields<'de, R: Read<'de>, F: ReadFields<'de, R>>(
         de.old de.new result }
     ensures taken { OnOk result (call.Advances R.source de.old de.new) }
     ensures form { IfErr result (call.MayReport R.source (any_of key_form F.wrong_forms) de.old) }
+    ensures memory { IfErr result (call.MemoryFor R.source
+        (AsksForFields (IsKeyed (keys_of keys.now)) (asks_for R.refusals R.lends)
+        (F.asks (asks_for R.refusals R.lends)))
+        (IsMapOf (IsKeyed (keys_of keys.now)) (F.fields (context de.old.decoder.formats R.lends)))
+        de.old) }
     ensures settings { SameSettings de.old.decoder de.new.decoder }
 {
     let outer = de.levels_left();
@@ -418,6 +455,11 @@ fn fields_within<'de, R: Read<'de>, F: ReadFields<'de, R>>(
         de.old de.new result }
     ensures taken { OnOk result (call.Advances R.source de.old de.new) }
     ensures form { IfErr result (call.MayReport R.source (any_of key_form F.wrong_forms) de.old) }
+    ensures memory { IfErr result (call.MemoryFor R.source
+        (AsksForFields (IsKeyed (keys_of keys.now)) (asks_for R.refusals R.lends)
+        (F.asks (asks_for R.refusals R.lends)))
+        (IsMapOf (IsKeyed (keys_of keys.now)) (F.fields (context de.old.decoder.formats R.lends)))
+        de.old) }
     ensures formats { de.new.decoder.formats ≡ de.old.decoder.formats }
 {
     let mut remaining = map_head(de)?;

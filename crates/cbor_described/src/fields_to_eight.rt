@@ -11,6 +11,7 @@ impl<A: FieldType, B: FieldType, C: FieldType, D: FieldType, E: FieldType> Reada
     ghost use Rattle.std.specs.Prelude.{[], ◌∷◌};
     ghost use Rattle.cbor_de.specs.Forms.{any_of, key_form, never};
     ghost use Rattle.cbor_de.specs.Structs.{IsKeyed, IsMapOf, field_or};
+    ghost use Rattle.cbor_de.specs.StructMemory.{AsksForFields, field_then, passed_over};
 
     ghost reads = { λ keys c r x. IsMapOf {S = A × B × C × D × (E × Unit {0})} (IsKeyed keys)
         (field_or (A.reads c) A.missing (λ p. p.0)
@@ -22,6 +23,11 @@ impl<A: FieldType, B: FieldType, C: FieldType, D: FieldType, E: FieldType> Reada
 
     ghost wrong_forms = { any_of key_form (any_of A.Of.wrong_forms (any_of B.Of.wrong_forms
         (any_of C.Of.wrong_forms (any_of D.Of.wrong_forms (any_of E.Of.wrong_forms never))))) };
+
+    ghost asks_memory = { λ keys a. AsksForFields (IsKeyed keys) a
+        (field_then (A.Of.asks_memory a) (field_then (B.Of.asks_memory a)
+        (field_then (C.Of.asks_memory a) (field_then (D.Of.asks_memory a)
+        (field_then (E.Of.asks_memory a) (passed_over a)))))) };
 }
 
 impl<
@@ -58,6 +64,7 @@ impl<
     ghost use Rattle.std.specs.Prelude.{[], ◌∷◌};
     ghost use Rattle.cbor_de.specs.Forms.{any_of, key_form, never};
     ghost use Rattle.cbor_de.specs.Structs.{IsKeyed, IsMapOf, field_or};
+    ghost use Rattle.cbor_de.specs.StructMemory.{AsksForFields, field_then, passed_over};
 
     ghost reads = { λ keys c r x. IsMapOf {S = A × B × C × D × (E × (F × Unit {0}))} (IsKeyed keys)
         (field_or (A.reads c) A.missing (λ p. p.0)
@@ -71,6 +78,12 @@ impl<
     ghost wrong_forms = { any_of key_form (any_of A.Of.wrong_forms (any_of B.Of.wrong_forms
         (any_of C.Of.wrong_forms (any_of D.Of.wrong_forms (any_of E.Of.wrong_forms
         (any_of F.Of.wrong_forms never)))))) };
+
+    ghost asks_memory = { λ keys a. AsksForFields (IsKeyed keys) a
+        (field_then (A.Of.asks_memory a) (field_then (B.Of.asks_memory a)
+        (field_then (C.Of.asks_memory a) (field_then (D.Of.asks_memory a)
+        (field_then (E.Of.asks_memory a) (field_then (F.Of.asks_memory a)
+        (passed_over a))))))) };
 }
 
 impl<
@@ -109,6 +122,7 @@ impl<
     ghost use Rattle.std.specs.Prelude.{[], ◌∷◌};
     ghost use Rattle.cbor_de.specs.Forms.{any_of, key_form, never};
     ghost use Rattle.cbor_de.specs.Structs.{IsKeyed, IsMapOf, field_or};
+    ghost use Rattle.cbor_de.specs.StructMemory.{AsksForFields, field_then, passed_over};
 
     ghost reads = { λ keys c r x. IsMapOf {S = A × B × C × D × (E × (F × (G × Unit {0})))} (IsKeyed keys)
         (field_or (A.reads c) A.missing (λ p. p.0)
@@ -124,6 +138,12 @@ impl<
         (any_of C.Of.wrong_forms (any_of D.Of.wrong_forms (any_of E.Of.wrong_forms
         (any_of F.Of.wrong_forms
         (any_of G.Of.wrong_forms never))))))) };
+
+    ghost asks_memory = { λ keys a. AsksForFields (IsKeyed keys) a
+        (field_then (A.Of.asks_memory a) (field_then (B.Of.asks_memory a)
+        (field_then (C.Of.asks_memory a) (field_then (D.Of.asks_memory a)
+        (field_then (E.Of.asks_memory a) (field_then (F.Of.asks_memory a)
+        (field_then (G.Of.asks_memory a) (passed_over a)))))))) };
 }
 
 impl<
@@ -164,6 +184,7 @@ impl<
     ghost use Rattle.std.specs.Prelude.{[], ◌∷◌};
     ghost use Rattle.cbor_de.specs.Forms.{any_of, key_form, never};
     ghost use Rattle.cbor_de.specs.Structs.{IsKeyed, IsMapOf, field_or};
+    ghost use Rattle.cbor_de.specs.StructMemory.{AsksForFields, field_then, passed_over};
 
     ghost reads = { λ keys c r x. IsMapOf {S = A × B × C × D × (E × F × G × H × Unit {0})} (IsKeyed keys)
         (field_or (A.reads c) A.missing (λ p. p.0)
@@ -180,6 +201,13 @@ impl<
         (any_of C.Of.wrong_forms (any_of D.Of.wrong_forms (any_of E.Of.wrong_forms
         (any_of F.Of.wrong_forms
         (any_of G.Of.wrong_forms (any_of H.Of.wrong_forms never)))))))) };
+
+    ghost asks_memory = { λ keys a. AsksForFields (IsKeyed keys) a
+        (field_then (A.Of.asks_memory a) (field_then (B.Of.asks_memory a)
+        (field_then (C.Of.asks_memory a) (field_then (D.Of.asks_memory a)
+        (field_then (E.Of.asks_memory a) (field_then (F.Of.asks_memory a)
+        (field_then (G.Of.asks_memory a) (field_then (H.Of.asks_memory a)
+        (passed_over a))))))))) };
 }
 
 impl<

@@ -20,6 +20,7 @@ impl<
     ghost use Rattle.std.specs.Prelude.{[], ◌∷◌};
     ghost use Rattle.cbor_de.specs.Forms.{any_of, key_form, never};
     ghost use Rattle.cbor_de.specs.Structs.{IsKeyed, IsMapOf, field_or};
+    ghost use Rattle.cbor_de.specs.StructMemory.{AsksForFields, field_then, passed_over};
 
     ghost reads = { λ keys c r x. IsMapOf
         {S = A × B × C × D × (E × F × G × H × (I × Unit {0}))} (IsKeyed keys)
@@ -38,6 +39,13 @@ impl<
         (any_of C.Of.wrong_forms (any_of D.Of.wrong_forms (any_of E.Of.wrong_forms
         (any_of F.Of.wrong_forms
         (any_of G.Of.wrong_forms (any_of H.Of.wrong_forms (any_of I.Of.wrong_forms never))))))))) };
+
+    ghost asks_memory = { λ keys a. AsksForFields (IsKeyed keys) a
+        (field_then (A.Of.asks_memory a) (field_then (B.Of.asks_memory a)
+        (field_then (C.Of.asks_memory a) (field_then (D.Of.asks_memory a)
+        (field_then (E.Of.asks_memory a) (field_then (F.Of.asks_memory a)
+        (field_then (G.Of.asks_memory a) (field_then (H.Of.asks_memory a)
+        (field_then (I.Of.asks_memory a) (passed_over a)))))))))) };
 }
 
 impl<
@@ -89,6 +97,7 @@ impl<
     ghost use Rattle.std.specs.Prelude.{[], ◌∷◌};
     ghost use Rattle.cbor_de.specs.Forms.{any_of, key_form, never};
     ghost use Rattle.cbor_de.specs.Structs.{IsKeyed, IsMapOf, field_or};
+    ghost use Rattle.cbor_de.specs.StructMemory.{AsksForFields, field_then, passed_over};
 
     ghost reads = { λ keys c r x. IsMapOf
         {S = A × B × C × D × (E × F × G × H × (I × (J × Unit {0})))} (IsKeyed keys)
@@ -109,6 +118,14 @@ impl<
         (any_of F.Of.wrong_forms
         (any_of G.Of.wrong_forms (any_of H.Of.wrong_forms (any_of I.Of.wrong_forms
         (any_of J.Of.wrong_forms never)))))))))) };
+
+    ghost asks_memory = { λ keys a. AsksForFields (IsKeyed keys) a
+        (field_then (A.Of.asks_memory a) (field_then (B.Of.asks_memory a)
+        (field_then (C.Of.asks_memory a) (field_then (D.Of.asks_memory a)
+        (field_then (E.Of.asks_memory a) (field_then (F.Of.asks_memory a)
+        (field_then (G.Of.asks_memory a) (field_then (H.Of.asks_memory a)
+        (field_then (I.Of.asks_memory a) (field_then (J.Of.asks_memory a)
+        (passed_over a))))))))))) };
 }
 
 impl<
@@ -168,6 +185,7 @@ impl<
     ghost use Rattle.std.specs.Prelude.{[], ◌∷◌};
     ghost use Rattle.cbor_de.specs.Forms.{any_of, key_form, never};
     ghost use Rattle.cbor_de.specs.Structs.{IsKeyed, IsMapOf, field_or};
+    ghost use Rattle.cbor_de.specs.StructMemory.{AsksForFields, field_then, passed_over};
 
     ghost reads = { λ keys c r x. IsMapOf
         {S = A × B × C × D × (E × F × G × H × (I × (J × (K × Unit {0}))))} (IsKeyed keys)
@@ -190,6 +208,14 @@ impl<
         (any_of G.Of.wrong_forms (any_of H.Of.wrong_forms (any_of I.Of.wrong_forms
         (any_of J.Of.wrong_forms
         (any_of K.Of.wrong_forms never))))))))))) };
+
+    ghost asks_memory = { λ keys a. AsksForFields (IsKeyed keys) a
+        (field_then (A.Of.asks_memory a) (field_then (B.Of.asks_memory a)
+        (field_then (C.Of.asks_memory a) (field_then (D.Of.asks_memory a)
+        (field_then (E.Of.asks_memory a) (field_then (F.Of.asks_memory a)
+        (field_then (G.Of.asks_memory a) (field_then (H.Of.asks_memory a)
+        (field_then (I.Of.asks_memory a) (field_then (J.Of.asks_memory a)
+        (field_then (K.Of.asks_memory a) (passed_over a)))))))))))) };
 }
 
 impl<
@@ -251,6 +277,7 @@ impl<
     ghost use Rattle.std.specs.Prelude.{[], ◌∷◌};
     ghost use Rattle.cbor_de.specs.Forms.{any_of, key_form, never};
     ghost use Rattle.cbor_de.specs.Structs.{IsKeyed, IsMapOf, field_or};
+    ghost use Rattle.cbor_de.specs.StructMemory.{AsksForFields, field_then, passed_over};
 
     ghost reads = { λ keys c r x. IsMapOf
         {S = A × B × C × D × (E × F × G × H × (I × J × K × L × Unit {0}))} (IsKeyed keys)
@@ -274,6 +301,15 @@ impl<
         (any_of G.Of.wrong_forms (any_of H.Of.wrong_forms (any_of I.Of.wrong_forms
         (any_of J.Of.wrong_forms
         (any_of K.Of.wrong_forms (any_of L.Of.wrong_forms never)))))))))))) };
+
+    ghost asks_memory = { λ keys a. AsksForFields (IsKeyed keys) a
+        (field_then (A.Of.asks_memory a) (field_then (B.Of.asks_memory a)
+        (field_then (C.Of.asks_memory a) (field_then (D.Of.asks_memory a)
+        (field_then (E.Of.asks_memory a) (field_then (F.Of.asks_memory a)
+        (field_then (G.Of.asks_memory a) (field_then (H.Of.asks_memory a)
+        (field_then (I.Of.asks_memory a) (field_then (J.Of.asks_memory a)
+        (field_then (K.Of.asks_memory a) (field_then (L.Of.asks_memory a)
+        (passed_over a))))))))))))) };
 }
 
 impl<

@@ -11,6 +11,7 @@ use cbor_io::error::Result;
 use cbor_parts::{FieldKeys, OneOf1, OneOf2, OneOf3, OneOf4, OneOf5, OneOf6, OneOf7, OneOf8};
 
 impl<A: Variant> ReadableParts for OneOf1<A> {
+    ghost use Rattle.std.specs.Prelude.{⊤};
     ghost use Rattle.cbor_model.specs.Readable.{PassesTags};
     ghost use Rattle.cbor_decode_as.specs.Enums.{IsEnum};
     ghost use Rattle.cbor_de.specs.Forms.{any_of, enum_form, never};
@@ -20,6 +21,8 @@ impl<A: Variant> ReadableParts for OneOf1<A> {
         (IsEnum c.formats keys.names (either (A.means c) no_variant)) r (list1 x) };
 
     ghost wrong_forms = { any_of enum_form (any_of A.wrong_forms never) };
+
+    ghost asks_memory = { λ keys a r. ⊤ };
 }
 
 impl<'de, R: Read<'de>, A: ReadVariant<'de, R>> ReadParts<'de, R> for OneOf1<A> {
@@ -41,6 +44,7 @@ fn one_of1<A: Drop>(list: OneOf<A, Never>) -> OneOf1<A>
 }
 
 impl<A: Variant, B: Variant> ReadableParts for OneOf2<A, B> {
+    ghost use Rattle.std.specs.Prelude.{⊤};
     ghost use Rattle.cbor_model.specs.Readable.{PassesTags};
     ghost use Rattle.cbor_decode_as.specs.Enums.{IsEnum};
     ghost use Rattle.cbor_de.specs.Forms.{any_of, enum_form, never};
@@ -50,6 +54,8 @@ impl<A: Variant, B: Variant> ReadableParts for OneOf2<A, B> {
         (IsEnum c.formats keys.names (either (A.means c) (either (B.means c) no_variant))) r (list2 x) };
 
     ghost wrong_forms = { any_of enum_form (any_of A.wrong_forms (any_of B.wrong_forms never)) };
+
+    ghost asks_memory = { λ keys a r. ⊤ };
 }
 
 impl<'de, R: Read<'de>, A: ReadVariant<'de, R>, B: ReadVariant<'de, R>> ReadParts<'de, R>
@@ -73,6 +79,7 @@ fn one_of2<A: Drop, B: Drop>(list: OneOf<A, OneOf<B, Never>>) -> OneOf2<A, B>
 }
 
 impl<A: Variant, B: Variant, C: Variant> ReadableParts for OneOf3<A, B, C> {
+    ghost use Rattle.std.specs.Prelude.{⊤};
     ghost use Rattle.cbor_model.specs.Readable.{PassesTags};
     ghost use Rattle.cbor_decode_as.specs.Enums.{IsEnum};
     ghost use Rattle.cbor_de.specs.Forms.{any_of, enum_form, never};
@@ -86,6 +93,8 @@ impl<A: Variant, B: Variant, C: Variant> ReadableParts for OneOf3<A, B, C> {
 
     ghost wrong_forms = { any_of enum_form (any_of A.wrong_forms (any_of B.wrong_forms
         (any_of C.wrong_forms never))) };
+
+    ghost asks_memory = { λ keys a r. ⊤ };
 }
 
 impl<
@@ -115,6 +124,7 @@ fn one_of3<A: Drop, B: Drop, C: Drop>(list: OneOf<A, OneOf<B, OneOf<C, Never>>>)
 }
 
 impl<A: Variant, B: Variant, C: Variant, D: Variant> ReadableParts for OneOf4<A, B, C, D> {
+    ghost use Rattle.std.specs.Prelude.{⊤};
     ghost use Rattle.cbor_model.specs.Readable.{PassesTags};
     ghost use Rattle.cbor_decode_as.specs.Enums.{IsEnum};
     ghost use Rattle.cbor_de.specs.Forms.{any_of, enum_form, never};
@@ -130,6 +140,8 @@ impl<A: Variant, B: Variant, C: Variant, D: Variant> ReadableParts for OneOf4<A,
     ghost wrong_forms = { any_of enum_form (any_of A.wrong_forms (any_of B.wrong_forms
         (any_of C.wrong_forms
         (any_of D.wrong_forms never)))) };
+
+    ghost asks_memory = { λ keys a r. ⊤ };
 }
 
 impl<
@@ -164,6 +176,7 @@ fn one_of4<A: Drop, B: Drop, C: Drop, D: Drop>(
 
 impl<A: Variant, B: Variant, C: Variant, D: Variant, E: Variant> ReadableParts
     for OneOf5<A, B, C, D, E> {
+    ghost use Rattle.std.specs.Prelude.{⊤};
     ghost use Rattle.cbor_model.specs.Readable.{PassesTags};
     ghost use Rattle.cbor_decode_as.specs.Enums.{IsEnum};
     ghost use Rattle.cbor_de.specs.Forms.{any_of, enum_form, never};
@@ -180,6 +193,8 @@ impl<A: Variant, B: Variant, C: Variant, D: Variant, E: Variant> ReadableParts
     ghost wrong_forms = { any_of enum_form (any_of A.wrong_forms (any_of B.wrong_forms
         (any_of C.wrong_forms
         (any_of D.wrong_forms (any_of E.wrong_forms never))))) };
+
+    ghost asks_memory = { λ keys a r. ⊤ };
 }
 
 impl<
@@ -218,6 +233,7 @@ fn one_of5<A: Drop, B: Drop, C: Drop, D: Drop, E: Drop>(
 
 impl<A: Variant, B: Variant, C: Variant, D: Variant, E: Variant, F: Variant> ReadableParts
     for OneOf6<A, B, C, D, E, F> {
+    ghost use Rattle.std.specs.Prelude.{⊤};
     ghost use Rattle.cbor_model.specs.Readable.{PassesTags};
     ghost use Rattle.cbor_decode_as.specs.Enums.{IsEnum};
     ghost use Rattle.cbor_de.specs.Forms.{any_of, enum_form, never};
@@ -235,6 +251,8 @@ impl<A: Variant, B: Variant, C: Variant, D: Variant, E: Variant, F: Variant> Rea
     ghost wrong_forms = { any_of enum_form (any_of A.wrong_forms (any_of B.wrong_forms
         (any_of C.wrong_forms
         (any_of D.wrong_forms (any_of E.wrong_forms (any_of F.wrong_forms never)))))) };
+
+    ghost asks_memory = { λ keys a r. ⊤ };
 }
 
 impl<
@@ -286,6 +304,7 @@ impl<
     F: Variant,
     G: Variant,
 > ReadableParts for OneOf7<A, B, C, D, E, F, G> {
+    ghost use Rattle.std.specs.Prelude.{⊤};
     ghost use Rattle.cbor_model.specs.Readable.{PassesTags};
     ghost use Rattle.cbor_decode_as.specs.Enums.{IsEnum};
     ghost use Rattle.cbor_de.specs.Forms.{any_of, enum_form, never};
@@ -305,6 +324,8 @@ impl<
         (any_of C.wrong_forms
         (any_of D.wrong_forms (any_of E.wrong_forms (any_of F.wrong_forms
         (any_of G.wrong_forms never))))))) };
+
+    ghost asks_memory = { λ keys a r. ⊤ };
 }
 
 impl<
@@ -363,6 +384,7 @@ impl<
     G: Variant,
     H: Variant,
 > ReadableParts for OneOf8<A, B, C, D, E, F, G, H> {
+    ghost use Rattle.std.specs.Prelude.{⊤};
     ghost use Rattle.cbor_model.specs.Readable.{PassesTags};
     ghost use Rattle.cbor_decode_as.specs.Enums.{IsEnum};
     ghost use Rattle.cbor_de.specs.Forms.{any_of, enum_form, never};
@@ -383,6 +405,8 @@ impl<
         (any_of C.wrong_forms
         (any_of D.wrong_forms (any_of E.wrong_forms (any_of F.wrong_forms (any_of G.wrong_forms
         (any_of H.wrong_forms never)))))))) };
+
+    ghost asks_memory = { λ keys a r. ⊤ };
 }
 
 impl<

@@ -1,6 +1,7 @@
 //! Structs and enums that are read by a description of their parts.
 
 ghost use Rattle.std.specs.Prelude.{◌≡◌, IfErr, OnOk};
+ghost use Rattle.cbor_read.specs.Source.{asks_for};
 ghost use Rattle.cbor_decode.specs.Decoder.{SameSettings};
 ghost use Rattle.cbor_parts.specs.Keys.{AreKeysOf, named_keys, keys_of};
 ghost use Rattle.cbor_decode_as.specs.Takes.{context};
@@ -16,6 +17,7 @@ pub trait ReadableParts: AtMostTwelveParts {
     ghost use Rattle.cbor_parts.specs.Keys.{Keys};
     ghost use Rattle.cbor_model.specs.Raw.{Raw};
     ghost use Rattle.cbor_model.specs.Readable.{Context};
+    ghost use Rattle.cbor_read.specs.Source.{Asks};
     ghost use Rattle.cbor_de.specs.Forms.{WrongForms};
 
     // As what an item is read, by the names of the fields or the variants, or the fields' labels.
@@ -23,6 +25,9 @@ pub trait ReadableParts: AtMostTwelveParts {
 
     // By which codes an item may be refused for its form, and where.
     ghost wrong_forms: { WrongForms };
+
+    // For which items memory may be asked, by the same names or labels.
+    ghost asks_memory: { Keys → Asks → Raw → Type 0 };
 }
 
 /// The parts of a struct or an enum, which are read from a source.
@@ -36,6 +41,9 @@ pub trait ReadParts<'de, R: Read<'de>>: ReadableParts {
             de.old de.new result }
         ensures taken { OnOk result (call.Advances R.source de.old de.new) }
         ensures form { IfErr result (call.MayReport R.source Self.wrong_forms de.old) }
+        ensures memory { IfErr result (call.MemoryFor R.source
+            (Self.asks_memory (keys_of keys.now) (asks_for R.refusals R.lends))
+            (Self.reads (keys_of keys.now) (context de.old.decoder.formats R.lends)) de.old) }
         ensures settings { SameSettings de.old.decoder de.new.decoder };
 }
 
@@ -44,6 +52,8 @@ impl<T: Readable> ReadableParts for Newtype<T> {
     ghost reads = { λ keys c r p. T.reads c r p.0 };
 
     ghost wrong_forms = { T.wrong_forms };
+
+    ghost asks_memory = { λ keys. T.asks_memory };
 }
 
 impl<'de, R: Read<'de>, T: Deserialize<'de, R>> ReadParts<'de, R> for Newtype<T> {
@@ -67,6 +77,8 @@ where
     ghost reads = { λ keys c r p. L.Parts.reads (labelled_keys keys.names L.labels) c r p.0 };
 
     ghost wrong_forms = { L.Parts.wrong_forms };
+
+    ghost asks_memory = { λ keys. L.Parts.asks_memory (labelled_keys keys.names L.labels) };
 }
 
 impl<'de, R: Read<'de>, L: FieldLabels> ReadParts<'de, R> for Labelled<L>
@@ -86,30 +98,37 @@ where
 }
 
 /// As what a struct or an enum is read by its description: as what its parts are, by the names that
-/// the description gives; and by which codes an item may be refused for its form. Each type with a
-/// [`Schema`] has both, and quotes them.
+/// the description gives; by which codes an item may be refused for its form; and for which items
+/// memory may be asked. Each type with a [`Schema`] has them, and quotes them.
 ///
 /// ```rust
 /// impl Readable for User {
 ///     ghost reads = { ⟦<Self as ReadBy<<Self as Schema>::Parts>>⟧.reads };
 ///
 ///     ghost wrong_forms = { ⟦<Self as ReadBy<<Self as Schema>::Parts>>⟧.wrong_forms };
+///
+///     ghost asks_memory = { ⟦<Self as ReadBy<<Self as Schema>::Parts>>⟧.asks_memory };
 /// }
 /// ```
 pub trait ReadBy<P>: Sized {
     ghost use Rattle.cbor_model.specs.Raw.{Raw};
     ghost use Rattle.cbor_model.specs.Readable.{Context};
+    ghost use Rattle.cbor_read.specs.Source.{Asks};
     ghost use Rattle.cbor_de.specs.Forms.{WrongForms};
 
     ghost reads: { Context → Raw → Self → Type 0 };
 
     ghost wrong_forms: { WrongForms };
+
+    ghost asks_memory: { Asks → Raw → Type 0 };
 }
 
 impl<P: ReadableParts, T: Schema<Parts = P>> ReadBy<P> for T {
     ghost reads = { λ c r x. P.reads (named_keys T.names) c r (T.parts x) };
 
     ghost wrong_forms = { P.wrong_forms };
+
+    ghost asks_memory = { P.asks_memory (named_keys T.names) };
 }
 
 /// Reads the item at the front by the description of the type.
@@ -130,6 +149,11 @@ where
         de.old de.new result }
     ensures taken { OnOk result (call.Advances R.source de.old de.new) }
     ensures form { IfErr result (call.MayReport R.source T.Parts.wrong_forms de.old) }
+    ensures memory { IfErr result (call.MemoryFor R.source
+        (T.Parts.asks_memory (named_keys T.names) (asks_for R.refusals R.lends))
+        (λ r x. T.Parts.reads (named_keys T.names) (context de.old.decoder.formats R.lends) r
+        (T.parts x))
+        de.old) }
     ensures settings { SameSettings de.old.decoder de.new.decoder }
 {
     let keys = FieldKeys {

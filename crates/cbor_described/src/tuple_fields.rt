@@ -16,12 +16,16 @@ impl<A: FieldType> ReadableParts for (A,) {
     ghost use Rattle.std.specs.Prelude.{[], ◌∷◌};
     ghost use Rattle.cbor_de.specs.Forms.{any_of, key_form, never};
     ghost use Rattle.cbor_de.specs.Structs.{IsKeyed, IsMapOf, field_or};
+    ghost use Rattle.cbor_de.specs.StructMemory.{AsksForFields, field_then, passed_over};
 
     ghost reads = { λ keys c r x. IsMapOf {S = A × Unit {0}} (IsKeyed keys)
         (field_or (A.reads c) A.missing (λ p. p.0) ∷ [])
         r (x.0, tt) };
 
     ghost wrong_forms = { any_of key_form (any_of A.Of.wrong_forms never) };
+
+    ghost asks_memory = { λ keys a. AsksForFields (IsKeyed keys) a
+        (field_then (A.Of.asks_memory a) (passed_over a)) };
 }
 
 impl<'de, R: Read<'de>, A: FieldType> ReadParts<'de, R> for (A,)
@@ -43,6 +47,7 @@ impl<A: FieldType, B: FieldType> ReadableParts for (A, B) {
     ghost use Rattle.std.specs.Prelude.{[], ◌∷◌};
     ghost use Rattle.cbor_de.specs.Forms.{any_of, key_form, never};
     ghost use Rattle.cbor_de.specs.Structs.{IsKeyed, IsMapOf, field_or};
+    ghost use Rattle.cbor_de.specs.StructMemory.{AsksForFields, field_then, passed_over};
 
     ghost reads = { λ keys c r x. IsMapOf {S = A × (B × Unit {0})} (IsKeyed keys)
         (field_or (A.reads c) A.missing (λ p. p.0)
@@ -51,6 +56,9 @@ impl<A: FieldType, B: FieldType> ReadableParts for (A, B) {
 
     ghost wrong_forms = { any_of key_form (any_of A.Of.wrong_forms
         (any_of B.Of.wrong_forms never)) };
+
+    ghost asks_memory = { λ keys a. AsksForFields (IsKeyed keys) a
+        (field_then (A.Of.asks_memory a) (field_then (B.Of.asks_memory a) (passed_over a))) };
 }
 
 impl<'de, R: Read<'de>, A: FieldType, B: FieldType> ReadParts<'de, R> for (A, B)
@@ -73,6 +81,7 @@ impl<A: FieldType, B: FieldType, C: FieldType> ReadableParts for (A, B, C) {
     ghost use Rattle.std.specs.Prelude.{[], ◌∷◌};
     ghost use Rattle.cbor_de.specs.Forms.{any_of, key_form, never};
     ghost use Rattle.cbor_de.specs.Structs.{IsKeyed, IsMapOf, field_or};
+    ghost use Rattle.cbor_de.specs.StructMemory.{AsksForFields, field_then, passed_over};
 
     ghost reads = { λ keys c r x. IsMapOf {S = A × (B × (C × Unit {0}))} (IsKeyed keys)
         (field_or (A.reads c) A.missing (λ p. p.0)
@@ -82,6 +91,10 @@ impl<A: FieldType, B: FieldType, C: FieldType> ReadableParts for (A, B, C) {
 
     ghost wrong_forms = { any_of key_form (any_of A.Of.wrong_forms (any_of B.Of.wrong_forms
         (any_of C.Of.wrong_forms never))) };
+
+    ghost asks_memory = { λ keys a. AsksForFields (IsKeyed keys) a
+        (field_then (A.Of.asks_memory a) (field_then (B.Of.asks_memory a)
+        (field_then (C.Of.asks_memory a) (passed_over a)))) };
 }
 
 impl<'de, R: Read<'de>, A: FieldType, B: FieldType, C: FieldType> ReadParts<'de, R> for (A, B, C)
@@ -105,6 +118,7 @@ impl<A: FieldType, B: FieldType, C: FieldType, D: FieldType> ReadableParts for (
     ghost use Rattle.std.specs.Prelude.{[], ◌∷◌};
     ghost use Rattle.cbor_de.specs.Forms.{any_of, key_form, never};
     ghost use Rattle.cbor_de.specs.Structs.{IsKeyed, IsMapOf, field_or};
+    ghost use Rattle.cbor_de.specs.StructMemory.{AsksForFields, field_then, passed_over};
 
     ghost reads = { λ keys c r x. IsMapOf {S = A × B × C × D × Unit {0}} (IsKeyed keys)
         (field_or (A.reads c) A.missing (λ p. p.0)
@@ -115,6 +129,10 @@ impl<A: FieldType, B: FieldType, C: FieldType, D: FieldType> ReadableParts for (
 
     ghost wrong_forms = { any_of key_form (any_of A.Of.wrong_forms (any_of B.Of.wrong_forms
         (any_of C.Of.wrong_forms (any_of D.Of.wrong_forms never)))) };
+
+    ghost asks_memory = { λ keys a. AsksForFields (IsKeyed keys) a
+        (field_then (A.Of.asks_memory a) (field_then (B.Of.asks_memory a)
+        (field_then (C.Of.asks_memory a) (field_then (D.Of.asks_memory a) (passed_over a))))) };
 }
 
 impl<'de, R: Read<'de>, A: FieldType, B: FieldType, C: FieldType, D: FieldType> ReadParts<'de, R>

@@ -17,7 +17,7 @@ use cbor_de::{
     Deserialize, Deserializer, Form, Read, ReadTuple, Readable, ReadableTuple, Source, one_part,
 };
 use cbor_io::error::{Error, Result};
-use cbor_parts::{FieldKeys, FieldNames, Newtype, Struct, Tuple};
+use cbor_parts::{AtMostEightParts, FieldKeys, FieldNames, Newtype, Struct, Tuple};
 
 // ---- a variant
 
@@ -130,7 +130,7 @@ impl<'de, R: Read<'de>, T: Deserialize<'de, R>> ReadVariant<'de, R> for Newtype<
     }
 }
 
-impl<F: ReadableTuple> Variant for Tuple<F> {
+impl<F: ReadableTuple + AtMostEightParts> Variant for Tuple<F> {
     ghost use Rattle.std.specs.Prelude.{codes};
     ghost use Rattle.cbor_decode_as.specs.Enums.{AreParts};
     ghost use Rattle.cbor_decode_as.specs.Variants.{ReportsAlone, alone_text};
@@ -142,7 +142,7 @@ impl<F: ReadableTuple> Variant for Tuple<F> {
     ghost alone = { ReportsAlone (alone_text (codes "tuple")) };
 }
 
-impl<'de, R: Read<'de>, F: ReadTuple<'de, R>> ReadVariant<'de, R> for Tuple<F> {
+impl<'de, R: Read<'de>, F: ReadTuple<'de, R> + AtMostEightParts> ReadVariant<'de, R> for Tuple<F> {
     #[tactic(auto, using(cbor_de::proofs::facts::Forms::content_plain))]
     fn read_content(de: &mut Deserializer<R>, form: Form) -> Result<Tuple<F>> {
         let remaining = parts(de, form)?;
@@ -164,6 +164,8 @@ where
     ghost reads = { λ c r y. N.Parts.reads (named_keys N.names) c r y.0 };
 
     ghost wrong_forms = { N.Parts.wrong_forms };
+
+    ghost asks_memory = { N.Parts.asks_memory (named_keys N.names) };
 }
 
 impl<'de, R: Read<'de>, N: FieldNames> Deserialize<'de, R> for NamedParts<N>

@@ -3,6 +3,7 @@
 
 -- what is known of the fields
 pub use Rattle.cbor_de.proofs.structs.Slots.{Slots, none_yet, AreHeld, Has, LacksAt, ValueAt, reads_at, put}
+pub use Rattle.cbor_de.proofs.structs.Slots.{gathered_twice, gathered_value}
 -- that a key means one field
 pub use Rattle.cbor_de.proofs.structs.Slots.{field_one, keyed_one}
 -- what is known of the struct, and that it is read or isn't
@@ -38,3 +39,7 @@ pub use Rattle.cbor_de.proofs.structs.StructLoops.{field_required, field_absent}
 pub use Rattle.cbor_de.proofs.structs.StructLoops.{fields_read, end_refused}
 -- a field that the struct doesn't have changes nothing of what it is read as
 pub use Rattle.cbor_de.proofs.structs.NewFieldPassed.{new_field_passed}
+-- ---- memory
+
+-- what a call that ran out of it says of the struct: of its head, a key, a value, and a missing field
+pub use Rattle.cbor_de.proofs.structs.StructMemory.{head_asked, key_asked, missing_asked, value_asked}

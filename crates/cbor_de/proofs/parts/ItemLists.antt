@@ -1,14 +1,16 @@
 -- The items that remain of an array, as the list of a tuple's parts: what the answers of the calls on a
 -- part, on the others and on the end add.
 use Rattle.cbor_decode.specs.Cursor.{behind_next}
-use Rattle.std.proofs.Common.{◌≡◌, ℕ, Bool, true, List, [], ◌∷◌, Result, Ok, Err, refl, sym, ap, subst, ◌∙◌}
+use Rattle.std.proofs.Common.{◌≡◌, inl, inr, ℕ, Bool, true, List, [], ◌∷◌, Option, Some, None, Result, Ok, Err, IfErr, refl, sym, ap, subst, ◌∙◌}
+use Rattle.cbor_model.specs.Reader as reader
+use Rattle.cbor_model.proofs.facts.Reader.{ok_is}
 use Rattle.cbor_model.specs.Formats as model
 use Rattle.cbor_model.specs.Raw.{Raw, Raws, no_raws}
 use Rattle.cbor_model.specs.Readable.{PassesTags}
 use Rattle.cbor_model.specs.Reader.{Reads, item_at, next_at}
 use Rattle.cbor_model.specs.Refusal.{end_in_array}
 use Rattle.cbor_read.specs.Source.{Input}
-use Rattle.cbor_io.specs.Error.{code_of, offset_of}
+use Rattle.cbor_io.specs.Error.{IsMessageOf, code_of, offset_of}
 use Rattle.cbor_io.specs.declared.error.Error.{Error}
 use Rattle.cbor_io.specs.declared.read_error.ReadErrorCode.{ReadErrorCode}
 use Rattle.cbor_decode.specs.Gives.{Limits, Step}
@@ -16,11 +18,11 @@ use Rattle.cbor_decode.specs.Heads.{remaining_of}
 use Rattle.cbor_decode.specs.declared.cursor.Remaining.{Remaining}
 use Rattle.cbor_decode.specs.declared.formats.Formats.{Formats}
 use Rattle.cbor_decode.proofs.facts.Steps.{step_map, step_then}
-use Rattle.cbor_decode_as.specs.Accesses.{items_at, IsArrayHead, IsNextItem, TakesPart, TakesEnd, IsEnd}
+use Rattle.cbor_decode_as.specs.Accesses.{items_at, IsArrayHead, IsNextItem, TakesMore, TakesNext, TakesPart, TakesEnd, IsEnd}
 use Rattle.cbor_decode_as.specs.Arrays.{AreNone, AsArray}
 use Rattle.cbor_decode_as.specs.Enums.{part_then, no_part}
 use Rattle.cbor_decode_as.specs.Takes.{TakesItem, IsRead, formats_of, raws}
-use Rattle.cbor_de.specs.ItemLists.{AreItems, AreNoItems, TakesItems}
+use Rattle.cbor_de.specs.ItemLists.{AreItems, AreNoItems, ReportsShort, TakesItems}
 use Rattle.cbor_decode_as.proofs.facts.Arrays.{comes, item_next, item_refused, NoPart, part_refused}
 use Rattle.cbor_decode_as.proofs.facts.Arrays.{append, with_front, SoFar, is_done, goes_on, begins, rest_of, no_part_rest}
 use Rattle.cbor_decode_as.proofs.facts.Arrays.{NoItems, array_read, array_refused, end_lacks, end_step, loop_begins}
@@ -118,3 +120,33 @@ module _ {A : Type 0} (items : Formats → Raws → A → Type 0) (f g : Formats
 
   pub array_answer : (q : Result A Error) → TakesItems allowed (formats_of g) (items g) inner all m t q → TakesItem allowed (formats_of f) (PassesTags (AsArray (items f))) outer s t q
   array_answer q h = array_here q (subst (λ (g : Formats). TakesItems allowed (formats_of g) (items g) inner all m t q) formats h)
+
+-- ---- too few items
+
+module _ (allowed : ReadErrorCode → Bool) (text : List ℕ) (r : Remaining) (s : Input) where
+  -- it is told where none comes
+  pub short_told : (e : Error) → IsMessageOf (Some text) (code_of e) → offset_of e ≡ 0 → ReportsShort allowed text r s e
+  short_told e is none bs reports rest end = inr (is, none)
+
+  -- neither an item nor the end is there
+  pub short_unmore : {w : Input} (e : Error) → TakesMore allowed r r s w (Err e) → ReportsShort allowed text r s e
+  short_unmore e h bs reports rest end = elim (h.reported bs reports) [
+    | inl excused ↦ inl excused
+    | inr none ↦ absurd (none None rest end)
+  ]
+
+  pub short_unread : {A : Type 0} {w : Input} (reads : Raw → A → Type 0) (f : model.Formats) (levels : ℕ) (e : Error) → TakesNext {A = A} allowed f reads levels r r s w (Err e) → ReportsShort allowed text r s e
+  short_unread reads f levels e h bs reports rest end = elim (h.reported bs reports) [
+    | inl excused ↦ inl excused
+    | inr none ↦ absurd (none None (remaining_of r) rest end)
+  ]
+
+  -- one came
+  pub short_later : {A : Type 0} (m : Input) (new : Remaining) (more : Bool) (q : Result A Error) → more ≡ true → Step s m (λ l bs rest. next_at end_in_array (remaining_of r) bs ≡ Ok (behind_next new more, rest)) → IfErr q (ReportsShort allowed text r s)
+  short_later m new more (Ok x) is step = tt
+  short_later m new more (Err e) is step = λ bs reports rest end.
+      let one = (comes s m r new more is step).reported bs reports in
+      absurd (some_none (remaining_of new) (ap (λ (p : Option reader.Remaining × List ℕ). p.0) (ok_is (None, rest) (Some (remaining_of new), one.rest) (sym end ∙ one.holds))))
+    where
+      some_none : (x : reader.Remaining) → None ≡ Some x → ⊥
+      some_none x e = absurd cc

@@ -32,16 +32,16 @@ use Rattle.cbor_de.proofs.parts.WholeMaps.{NoPairs, map_begins, map_goes_on, key
 -- ---- after a key
 
 -- a pair after those before, of which P holds
-record PairAt (P : List (Raw × Raw) → Type 0) (key : Raw → Type 0) (value : Reads Raw) (rs : RawPairs) : Type 0 where
-  front : List (Raw × Raw)
-  a : Raw
-  b : Raw
-  after : List ℕ
-  more : RawPairs
-  holds : P front
-  named : key a
-  is : value ≡ Ok (b, after)
-  same : rs ≡ append_pairs front (raw_pair a b more)
+pub record PairAt (P : List (Raw × Raw) → Type 0) (key : Raw → Type 0) (value : Reads Raw) (rs : RawPairs) : Type 0 where
+  pub front : List (Raw × Raw)
+  pub a : Raw
+  pub b : Raw
+  pub after : List ℕ
+  pub more : RawPairs
+  pub holds : P front
+  pub named : key a
+  pub is : value ≡ Ok (b, after)
+  pub same : rs ≡ append_pairs front (raw_pair a b more)
 
 some_is : (x y : reader.Remaining) → Some x ≡ Some y → x ≡ y
 some_is x y e = cc
@@ -51,12 +51,12 @@ no_some x e = absurd cc
 
 module _ {K : Type 0} (s0 : Input) (P : List (Raw × Raw) → Type 0) (f : Formats) (levels : ℕ) (all : Remaining) (keys : Raw → K → Type 0) (r new : Remaining) (k : K) where
   -- the key after the pairs so far
-  record KeyTaken (l : Limits) (bs rest : List ℕ) : Type 0 where
-    mid : List ℕ
-    so : PairsSoFar P (formats_of f) levels (remaining_of all) (remaining_of r) l bs mid
-    key : IsNextKey keys (formats_of f) levels (remaining_of r) (remaining_of new) k l mid rest
+  pub record KeyTaken (l : Limits) (bs rest : List ℕ) : Type 0 where
+    pub mid : List ℕ
+    pub so : PairsSoFar P (formats_of f) levels (remaining_of all) (remaining_of r) l bs mid
+    pub key : IsNextKey keys (formats_of f) levels (remaining_of r) (remaining_of new) k l mid rest
 
-  pair_at_key : (l : Limits) (bs mid rest : List ℕ) (rs : RawPairs) → KeyTaken l bs mid → pairs_at (formats_of f) l levels (remaining_of all) bs ≡ Ok (rs, rest) → PairAt P (λ a. keys a k) (item_at (raws (formats_of f) l) levels mid) rs
+  pub pair_at_key : (l : Limits) (bs mid rest : List ℕ) (rs : RawPairs) → KeyTaken l bs mid → pairs_at (formats_of f) l levels (remaining_of all) bs ≡ Ok (rs, rest) → PairAt P (λ a. keys a k) (item_at (raws (formats_of f) l) levels mid) rs
   pair_at_key l bs mid rest rs h is =
       let p = item_at (raws (formats_of f) l) levels in
       let w = pairs_rest P (formats_of f) levels (remaining_of all) (remaining_of r) l bs h.mid rest rs h.so is in
@@ -80,7 +80,7 @@ module _ {K : Type 0} (s0 : Input) (P : List (Raw × Raw) → Type 0) (f : Forma
       ]
 
   module _ (s t : Input) (one : Step s0 s (PairsSoFar P (formats_of f) levels (remaining_of all) (remaining_of r))) (two : Step s t (IsKey keys (formats_of f) levels (remaining_of r) (remaining_of new) (Some k))) where
-    key_taken : Step s0 t KeyTaken
+    pub key_taken : Step s0 t KeyTaken
     key_taken = step_then s0 s t (PairsSoFar P (formats_of f) levels (remaining_of all) (remaining_of r)) (IsNextKey keys (formats_of f) levels (remaining_of r) (remaining_of new) k) KeyTaken
         (λ l bs mid rest so key. record { mid = mid; so = so; key = key }) one two
 
@@ -175,7 +175,7 @@ module _ {S : Type 0} (keyed : Raw → Field → Type 0) (fields : List (FieldOf
       key_there : Step t u (IsKey keyed (formats_of g) levels (remaining_of r) (remaining_of new) (Some field))
       key_there = subst (λ (o : Option Field). Step t u (IsKey keyed (formats_of g) levels (remaining_of r) (remaining_of new) o)) named key
 
-      key_here : Step t u (IsKey keyed (formats_of f) so.deep (remaining_of r) (remaining_of new) (Some field))
+      pub key_here : Step t u (IsKey keyed (formats_of f) so.deep (remaining_of r) (remaining_of new) (Some field))
       key_here =
           let there = subst (λ (g : Formats). Step t u (IsKey keyed (formats_of g) levels (remaining_of r) (remaining_of new) (Some field))) so.formats key_there in
           subst (λ (n : ℕ). Step t u (IsKey keyed (formats_of f) n (remaining_of r) (remaining_of new) (Some field))) so.inside there
@@ -242,7 +242,7 @@ module _ {S : Type 0} (keyed : Raw → Field → Type 0) (fields : List (FieldOf
     -- ---- at the end
 
     module _ (next : Option Field) (none : next ≡ None) {u : Input} (new : Remaining) (key : Step t u (IsKey keyed (formats_of g) levels (remaining_of r) (remaining_of new) next)) where
-      end_here : Step t u (IsMapEnd (remaining_of r))
+      pub end_here : Step t u (IsMapEnd (remaining_of r))
       end_here = subst (λ (o : Option Field). Step t u (IsKey keyed (formats_of g) levels (remaining_of r) (remaining_of new) o)) none key
 
       -- a field is missing

@@ -65,6 +65,10 @@ impl Readable for char {
     fn at_hand<R: Source>(de: &mut Deserializer<R>) -> Option<char> {
         ascii_at_hand(&mut de.decoder)
     }
+
+    fn is_gathered() -> bool {
+        true
+    }
 }
 
 impl<'de, R: Read<'de>> Deserialize<'de, R> for char {

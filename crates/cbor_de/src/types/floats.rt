@@ -2,9 +2,9 @@
 
 use crate::de::Deserializer;
 use crate::deserialize::{Deserialize, DeserializeOwned, Readable};
-use cbor_decode_as::floats::{read_f32, read_f64};
+use cbor_decode_as::floats::{f32_at_hand, f64_at_hand, read_f32, read_f64};
 use cbor_io::error::Result;
-use cbor_read::Read;
+use cbor_read::{Read, Source};
 
 /// A float of 16, 32 or 64 bits, or an integer, whose number an `f32` holds exactly. Another float is
 /// refused with `float out of range: expected f32`, another integer with
@@ -23,6 +23,15 @@ impl Readable for f32 {
     ghost wrong_forms = { never };
 
     ghost passes_over = { true };
+
+    #[inline(always)]
+    fn at_hand<R: Source>(de: &mut Deserializer<R>) -> Option<f32> {
+        f32_at_hand(&mut de.decoder)
+    }
+
+    fn is_gathered() -> bool {
+        true
+    }
 }
 
 impl<'de, R: Read<'de>> Deserialize<'de, R> for f32 {
@@ -53,6 +62,15 @@ impl Readable for f64 {
     ghost wrong_forms = { never };
 
     ghost passes_over = { true };
+
+    #[inline(always)]
+    fn at_hand<R: Source>(de: &mut Deserializer<R>) -> Option<f64> {
+        f64_at_hand(&mut de.decoder)
+    }
+
+    fn is_gathered() -> bool {
+        true
+    }
 }
 
 impl<'de, R: Read<'de>> Deserialize<'de, R> for f64 {

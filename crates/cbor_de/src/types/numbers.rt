@@ -28,6 +28,10 @@ impl Readable for u8 {
             None => None,
         }
     }
+
+    fn is_gathered() -> bool {
+        true
+    }
 }
 
 impl<'de, R: Read<'de>> Deserialize<'de, R> for u8 {
@@ -67,6 +71,10 @@ impl Readable for u16 {
             Some(number) => Some(number as u16),
             None => None,
         }
+    }
+
+    fn is_gathered() -> bool {
+        true
     }
 }
 
@@ -108,6 +116,10 @@ impl Readable for u32 {
             None => None,
         }
     }
+
+    fn is_gathered() -> bool {
+        true
+    }
 }
 
 impl<'de, R: Read<'de>> Deserialize<'de, R> for u32 {
@@ -147,6 +159,10 @@ impl Readable for u64 {
             Some(number) => Some(number as u64),
             None => None,
         }
+    }
+
+    fn is_gathered() -> bool {
+        true
     }
 }
 
@@ -188,6 +204,10 @@ impl Readable for usize {
             None => None,
         }
     }
+
+    fn is_gathered() -> bool {
+        true
+    }
 }
 
 impl<'de, R: Read<'de>> Deserialize<'de, R> for usize {
@@ -227,6 +247,10 @@ impl Readable for i8 {
             Some(number) => Some(number as i8),
             None => None,
         }
+    }
+
+    fn is_gathered() -> bool {
+        true
     }
 }
 
@@ -268,6 +292,10 @@ impl Readable for i16 {
             None => None,
         }
     }
+
+    fn is_gathered() -> bool {
+        true
+    }
 }
 
 impl<'de, R: Read<'de>> Deserialize<'de, R> for i16 {
@@ -307,6 +335,10 @@ impl Readable for i32 {
             Some(number) => Some(number as i32),
             None => None,
         }
+    }
+
+    fn is_gathered() -> bool {
+        true
     }
 }
 
@@ -348,6 +380,10 @@ impl Readable for i64 {
             None => None,
         }
     }
+
+    fn is_gathered() -> bool {
+        true
+    }
 }
 
 impl<'de, R: Read<'de>> Deserialize<'de, R> for i64 {
@@ -387,6 +423,10 @@ impl Readable for isize {
             Some(number) => Some(number as isize),
             None => None,
         }
+    }
+
+    fn is_gathered() -> bool {
+        true
     }
 }
 

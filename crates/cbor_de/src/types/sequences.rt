@@ -9,6 +9,7 @@ ghost use Rattle.cbor_de.specs.Calls as call;
 
 use crate::de::Deserializer;
 use crate::deserialize::{Deserialize, DeserializeOwned, Readable};
+use crate::ready::ready;
 use cbor_decode::capacity::push_any;
 use cbor_io::error::{Error, Result};
 use cbor_read::Read;
@@ -52,7 +53,7 @@ pub(super) fn array_items<'de, T: Deserialize<'de, R>, R: Read<'de>>(
             Ok(false) => break,
             Err(refused) => return Err(access.refused(refused)),
         }
-        let item = match T::at_hand(access.de) {
+        let item = match ready::<T, R>(access.de) {
             Some(item) => item,
             None => match T::deserialize(access.de) {
                 Ok(item) => item,
@@ -115,6 +116,10 @@ impl<T: Readable, const N: usize> Readable for [T; N] {
     ghost reads = { λ c. PassesTags (AsArray (AreExactly (T.reads c) N)) };
 
     ghost wrong_forms = { T.wrong_forms };
+
+    fn is_gathered() -> bool {
+        false
+    }
 }
 
 impl<'de, R: Read<'de>, T: Deserialize<'de, R>, const N: usize> Deserialize<'de, R> for [T; N] {

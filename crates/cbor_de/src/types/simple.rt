@@ -24,6 +24,10 @@ impl Readable for bool {
     fn at_hand<R: Source>(de: &mut Deserializer<R>) -> Option<bool> {
         bool_at_hand(&mut de.decoder)
     }
+
+    fn is_gathered() -> bool {
+        true
+    }
 }
 
 impl<'de, R: Read<'de>> Deserialize<'de, R> for bool {

@@ -7,11 +7,13 @@ use Rattle.cbor_model.specs.Reader.{next_at, item_at}
 use Rattle.cbor_model.specs.Reader as reader
 use Rattle.cbor_model.proofs.facts.Reader.{ok_is, taken}
 use Rattle.cbor_read.specs.Source.{Input}
+use Rattle.cbor_io.specs.Error.{code_of}
 use Rattle.cbor_io.specs.declared.error.Error.{Error}
+use Rattle.cbor_io.specs.declared.error.ErrorCode.TheVariants.{OutOfMemory}
 use Rattle.cbor_io.specs.declared.error.ErrorCode.{ErrorCode}
 use Rattle.cbor_io.specs.declared.read_error.ReadErrorCode.{ReadErrorCode}
 use Rattle.cbor_decode.specs.Cursor.{behind_next}
-use Rattle.cbor_decode.specs.Gives.{Limits, Step, limits}
+use Rattle.cbor_decode.specs.Gives.{Limits, Reports, Step, limits}
 use Rattle.cbor_decode.specs.Heads.{remaining_of}
 use Rattle.cbor_decode.specs.declared.cursor.Remaining.{Remaining}
 use Rattle.cbor_decode.proofs.facts.Steps.{some_then, step_map, step_then}
@@ -52,9 +54,8 @@ module _ (s m : Input) (old new : Remaining) (more : Bool) where
         refuses_then allowed s k at m Comes (λ l bs. IsNotRead (reads f) (item_at (raws (formats_of f) l) levels bs)) (NoNext (reads f) (formats_of f) levels (remaining_of old))
         (λ l bs mid is none. not_next l bs mid is none) step here
 
-    -- where memory runs out in it, it is one for which memory may be asked
-    pub item_asks : (asks : Raw → Type 0) (e : Error) → Step s m Comes → MemoryFor asks (formats_of g) (reads g) inside m e → MemoryForNext asks (formats_of f) (reads f) levels old s e
-    item_asks asks e step memory out bs reports x after rest next =
+    item_asked : (asks : Raw → Type 0) (e : Error) (step : Step s m Comes) → MemoryFor asks (formats_of g) (reads g) inside m e → code_of e ≡ OutOfMemory → (bs : List ℕ) → Reports s bs → (x : A) (after : reader.Remaining) (rest : List ℕ) → (next : IsNextItem (reads f) (formats_of f) levels (remaining_of old) after x (limits s bs) bs rest) → asks next.item.item
+    item_asked asks e step memory out bs reports x after rest next =
         let first = step.reported bs reports in
         let both = ok_is (Some after, next.start) (Some (remaining_of new), first.rest) (sym next.next ∙ first.holds) in
         let item = next.item.item in
@@ -64,6 +65,13 @@ module _ (s m : Input) (old new : Remaining) (more : Bool) where
         let level = subst (λ (n : ℕ). item_at (raws (formats_of f) (limits m first.rest)) n first.rest ≡ Ok (item, rest)) (sym same) within in
         let is = subst (λ (h : Formats). item_at (raws (formats_of h) (limits m first.rest)) inside first.rest ≡ Ok (item, rest)) (sym formats) level in
         memory out first.rest first.reports x rest (record { item = item; is = is; means = subst (λ (h : Formats). reads h item x) (sym formats) next.item.means })
+
+    -- where memory runs out in it, it is one for which memory may be asked
+    pub item_asks : (asks : Raw → Type 0) (e : Error) → Step s m Comes → MemoryFor asks (formats_of g) (reads g) inside m e → MemoryForNext asks (formats_of f) (reads f) levels old s e
+    item_asks asks e step memory out bs reports = (
+      λ x after rest next. item_asked asks e step memory out bs reports x after rest next,
+      λ rest end. no_some (remaining_of new) (ap (λ (p : Option reader.Remaining × List ℕ). p.0) (ok_is (None, rest) (Some (remaining_of new), (step.reported bs reports).rest) (sym end ∙ (step.reported bs reports).holds))),
+    )
 
     module _ (t : Input) (x : A) where
       pub item_next : Step s m Comes → Step m t (λ l bs rest. IsRead (reads g) (item_at (raws (formats_of g) l) inside bs) x rest) → Step s t (IsNext (reads f) (formats_of f) levels (remaining_of old) (remaining_of new) (Some x))

@@ -3,7 +3,7 @@
 -- a fault that is reported is excused, or was met
 pub use Rattle.cbor_decode_as.proofs.numbers.Scalars.{excused_or}
 -- what a fault stops isn't read, and the error of a refusal reports the fault
-pub use Rattle.cbor_decode_as.proofs.numbers.Scalars.{refuses, reported_by}
+pub use Rattle.cbor_decode_as.proofs.numbers.Scalars.{refuses, reported_by, reported_why}
 -- further bytes were taken
 pub use Rattle.cbor_decode_as.proofs.numbers.Scalars.{refuses_on}
 -- an error that isn't lack of memory says nothing of items that take some

@@ -62,7 +62,7 @@ module _ (l : Limits) where
   passed_found zero = begun zero (λ w n mid. refl)
   passed_found (suc left) = begun (suc left) (λ w n mid. passed_made (any_item left l mid) ((values all_formats l).tag w n) ∙ passed_found left mid)
 
-  found_is : (levels left : ℕ) (h : Head) (bs mid : List ℕ) → opened_at levels bs ≡ Ok ((left, h), mid) → passed (any_item levels l bs) ≡ passed (behind_any left h l mid)
+  pub found_is : (levels left : ℕ) (h : Head) (bs mid : List ℕ) → opened_at levels bs ≡ Ok ((left, h), mid) → passed (any_item levels l bs) ≡ passed (behind_any left h l mid)
   found_is levels left h bs mid is = passed_found levels bs ∙ rw is refl
 
   found_stops : (levels : ℕ) (bs : List ℕ) (f : Fault) → opened_at levels bs ≡ Err f → any_item levels l bs ≡ Err f

@@ -46,7 +46,7 @@ module _ {A : Type 0} (pairs : RawPairs → A → Type 0) where
   map_kind (raw.simple s) x h n = absurd h
   map_kind (raw.float w bits) x h n = absurd h
 
-no_map : (h : Head) → ((r : Remaining) → h ≡ head.Map r → ⊥) → kind.map ≡ head_kind h → ⊥
+pub no_map : (h : Head) → ((r : Remaining) → h ≡ head.Map r → ⊥) → kind.map ≡ head_kind h → ⊥
 no_map (head.Unsigned n) other e = absurd cc
 no_map (head.Negative n) other e = absurd cc
 no_map (head.Bytes n) other e = absurd cc
@@ -129,6 +129,20 @@ module _ {A : Type 0} (pairs : RawPairs → A → Type 0) (f : Formats) (l : Lim
         is = sym same ∙ ap (λ (p : Raw × List ℕ). Ok (x.0, p.1)) both;
         same = sym (ap (λ (p : Raw × List ℕ). p.0) both);
       }
+
+  -- an item that is read from it is the map of these pairs
+  pub record IsMapOfPairs (i : Raw) (x : A) (rest : List ℕ) : Type 0 where
+    pub rs : RawPairs
+    pub is : pairs_at f l left (remaining_of r) mid ≡ Ok (rs, rest)
+    pub same : untagged i ≡ raw.map h.len rs
+    pub means : pairs rs x
+
+  pub map_is : (x : A) (rest : List ℕ) (got : IsRead (PassesTags (AsMap pairs)) read x rest) → IsMapOfPairs got.item x rest
+  map_is x rest got =
+      let w = within_tags h.tags (map_of h.len (pairs_at f l left (remaining_of r) mid)) got.item rest (sym h.is ∙ got.is) in
+      let a = pairs_of_map (pairs_at f l left (remaining_of r) mid) w.item rest refl w.is in
+      let same : untagged got.item ≡ raw.map h.len a.rs = ap untagged w.wrapped ∙ untagged-tagged h.tags w.item ∙ ap untagged a.same in
+      record { rs = a.rs; is = a.is; same = same; means = subst (λ (i : Raw). AsMap pairs i x) same got.means }
 
   pub map_none : ((rs : RawPairs) (rest : List ℕ) (x : A) → pairs_at f l left (remaining_of r) mid ≡ Ok (rs, rest) → pairs rs x → ⊥) → IsNotRead (PassesTags (AsMap pairs)) read
   map_none none x rest got =

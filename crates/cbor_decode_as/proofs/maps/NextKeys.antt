@@ -11,16 +11,17 @@ use Rattle.cbor_read.specs.Source.{Input}
 use Rattle.cbor_io.specs.Error.{code_of, offset_of}
 use Rattle.cbor_io.specs.declared.error.Error.{Error}
 use Rattle.cbor_io.specs.declared.error.ErrorCode.{ErrorCode}
+use Rattle.cbor_io.specs.declared.error.ErrorCode.TheVariants.{OutOfMemory}
 use Rattle.cbor_io.specs.declared.read_error.ReadError.{ReadError}
 use Rattle.cbor_io.specs.declared.read_error.ReadErrorCode.{ReadErrorCode}
 use Rattle.cbor_decode.specs.Cursor.{behind_next}
-use Rattle.cbor_decode.specs.Gives.{Limits, Step, Stopped, IsErrorOf, limits}
+use Rattle.cbor_decode.specs.Gives.{Limits, Reports, Step, Stopped, IsErrorOf, limits}
 use Rattle.cbor_decode.specs.Heads.{remaining_of}
 use Rattle.cbor_decode.specs.declared.cursor.Remaining.{Remaining}
 use Rattle.cbor_decode.specs.declared.refusal.Refused.{Refused}
 use Rattle.cbor_decode.proofs.facts.Steps.{some_then, step_map, step_then}
 use Rattle.cbor_decode.specs.declared.formats.Formats.{Formats}
-use Rattle.cbor_decode_as.specs.MapAccesses.{Comes, key_front, IsKey, MemoryForKey}
+use Rattle.cbor_decode_as.specs.MapAccesses.{Comes, key_front, IsKey, IsNextKey, MemoryForKey}
 use Rattle.cbor_decode_as.specs.Takes.{formats_of, raws, IsRead, IsNotRead, MemoryFor, Refuses}
 use Rattle.cbor_decode_as.proofs.maps.PairsRead.{NoKey}
 use Rattle.cbor_decode_as.proofs.refused.Refusing.{refuses_map, refuses_then, refuses_stopped}
@@ -124,9 +125,8 @@ module _ (s m : Input) (old new : Remaining) (more : Bool) where
         refuses_then allowed s k at m (There f) (λ l bs. IsNotRead (reads f) (item_at (raws (formats_of f) l) levels bs)) (NoKey (reads f) (formats_of f) levels (remaining_of old))
         (λ l bs mid is none. not_key l bs mid is none) step here
 
-    -- where memory runs out in it, it is one for which memory may be asked
-    pub key_asks : (asks : Raw → Type 0) (e : Error) → Step s m (There f) → MemoryFor asks (formats_of g) (reads g) inside m e → MemoryForKey asks (formats_of f) (reads f) levels old s e
-    key_asks asks e step memory out bs reports x after rest next =
+    key_asked : (asks : Raw → Type 0) (e : Error) (step : Step s m (There f)) → MemoryFor asks (formats_of g) (reads g) inside m e → code_of e ≡ OutOfMemory → (bs : List ℕ) → Reports s bs → (x : K) (after : reader.Remaining) (rest : List ℕ) → (next : IsNextKey (reads f) (formats_of f) levels (remaining_of old) after x (limits s bs) bs rest) → asks next.key.item
+    key_asked asks e step memory out bs reports x after rest next =
         let first = step.reported bs reports in
         let both = ok_is (Some after, next.start) (Some (remaining_of new), first.rest) (sym next.next ∙ first.holds.0) in
         let item = next.key.item in
@@ -137,6 +137,13 @@ module _ (s m : Input) (old new : Remaining) (more : Bool) where
         let level = subst (λ (n : ℕ). item_at (raws (formats_of f) (limits m first.rest)) n first.rest ≡ Ok (item, rest)) (sym same) within in
         let is = subst (λ (h : Formats). item_at (raws (formats_of h) (limits m first.rest)) inside first.rest ≡ Ok (item, rest)) (sym formats) level in
         memory out first.rest first.reports x rest (record { item = item; is = is; means = subst (λ (h : Formats). reads h item x) (sym formats) next.key.means })
+
+    -- where memory runs out in it, it is one for which memory may be asked
+    pub key_asks : (asks : Raw → Type 0) (e : Error) → Step s m (There f) → MemoryFor asks (formats_of g) (reads g) inside m e → MemoryForKey asks (formats_of f) (reads f) levels old s e
+    key_asks asks e step memory out bs reports = (
+      λ x after rest next. key_asked asks e step memory out bs reports x after rest next,
+      λ rest end. none_some (remaining_of new) (ap (λ (p : Option reader.Remaining × List ℕ). p.0) (ok_is (None, rest) (Some (remaining_of new), (step.reported bs reports).rest) (sym end ∙ (step.reported bs reports).holds.0))),
+    )
 
     module _ (t : Input) (x : K) where
       pub key_next : Step s m (There f) → Step m t (λ l bs rest. IsRead (reads g) (item_at (raws (formats_of g) l) inside bs) x rest) → Step s t (IsKey (reads f) (formats_of f) levels (remaining_of old) (remaining_of new) (Some x))

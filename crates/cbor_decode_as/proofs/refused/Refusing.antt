@@ -9,7 +9,7 @@ use Rattle.cbor_io.specs.declared.error.ErrorCode.TheVariants as code
 use Rattle.cbor_io.specs.declared.read_error.ReadError.{ReadError}
 use Rattle.cbor_io.specs.declared.read_error.ReadErrorCode.{ReadErrorCode}
 use Rattle.cbor_decode.specs.declared.refusal.Refused.{Refused}
-use Rattle.cbor_decode.specs.Gives.{Limits, limits, Step, Stopped, ReportsIo, IsErrorOf}
+use Rattle.cbor_decode.specs.Gives.{Limits, limits, Reports, Step, Stopped, ReportsIo, IsErrorOf}
 use Rattle.cbor_decode_as.specs.Takes.{ExcusedBy, Refuses, ReportsFault}
 use Rattle.cbor_decode.proofs.facts.Steps.{some_then}
 use Rattle.cbor_decode_as.proofs.numbers.Scalars.{excused_or, reported_by}
@@ -65,3 +65,20 @@ refuses_fault allowed read s e N on took fails = record {
 pub refuses_stopped : {A : Type 0} {w : Input} (allowed : ReadErrorCode → Bool) (read : Limits → List ℕ → Reads A) (s : Input) (kept : ReadError) (r : Refused) (e : Error) (N : Limits → List ℕ → Type 0)
     → ((l : Limits) (bs : List ℕ) (f : Fault) → read l bs ≡ Err f → N l bs) → IsErrorOf kept r e → Stopped allowed read s w kept r → Refuses allowed s w (code_of e) (offset_of e) N
 refuses_stopped allowed read s kept r e N on is h = refuses_fault allowed read s e N on h.took (reported_by allowed read s kept r e is h)
+
+-- ---- memory
+
+-- Where memory ran out, Q holds of the limits and of the bytes to come.
+abbrev pub OutOfMemoryAt : (Limits → List ℕ → Type 0) → Input → Error → Type 0
+OutOfMemoryAt Q s e = code_of e ≡ code.OutOfMemory → (bs : List ℕ) → Reports s bs → Q (limits s bs) bs
+
+-- after a step
+pub memory_then : (s m : Input) (e : Error) (P : Limits → List ℕ → List ℕ → Type 0) (Q Q' : Limits → List ℕ → Type 0) → ((l : Limits) (bs mid : List ℕ) → P l bs mid → Q l mid → Q' l bs) → Step s m P → OutOfMemoryAt Q m e → OutOfMemoryAt Q' s e
+memory_then s m e P Q Q' on step h out bs reports =
+    let one = step.reported bs reports in
+    let same : limits m one.rest ≡ limits s bs = ap₂ (λ (n : ℕ) (r : Option ℕ). record { total = n; room = r }) one.total step.took.room in
+    on (limits s bs) bs one.rest one.holds (subst (λ (l : Limits). Q l one.rest) same (h out one.rest one.reports))
+
+-- of what a step reports
+pub memory_by : (s m : Input) (e : Error) (P : Limits → List ℕ → List ℕ → Type 0) (Q : Limits → List ℕ → Type 0) → ((l : Limits) (bs mid : List ℕ) → P l bs mid → Q l bs) → Step s m P → OutOfMemoryAt Q s e
+memory_by s m e P Q on step out bs reports = on (limits s bs) bs (step.reported bs reports).rest (step.reported bs reports).holds

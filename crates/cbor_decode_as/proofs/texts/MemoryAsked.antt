@@ -78,7 +78,7 @@ bytes_only P t (Err u) is = absurd is
 -- ---- the item at the front
 
 -- of all that is read, P holds
-abbrev Always : (Raw → Type 0) → Reads Raw → Type 0
+abbrev pub Always : (Raw → Type 0) → Reads Raw → Type 0
 Always P read = (r : Raw) (rest : List ℕ) → read ≡ Ok (r, rest) → P r
 
 module _ (P : Raw → Type 0) where
@@ -120,14 +120,14 @@ module _ (P : Raw → Type 0) where
 
 module _ (a : Asks) (f : Formats) (l : Limits) (inner : Option (List ℕ → Reads Raw)) (w : HeadWidth) (bs : List ℕ) where
   -- all that is read after this head is asked for so
-  abbrev AskAs : Head → Type 0
+  abbrev pub AskAs : Head → Type 0
   AskAs h = Always (λ r. asks_string a (untagged r) ≡ asks_head a h) (behind_head (raws f l) inner w h bs)
 
-  text_asks : (n : Option ℕ) → AskAs (head.Text n)
+  pub text_asks : (n : Option ℕ) → AskAs (head.Text n)
   text_asks (Some n) = text_always (λ r. asks_string a (untagged r) ≡ a.whole) f l inner w bs (λ c. refl) n
   text_asks None = text_chunks_always (λ r. asks_string a (untagged r) ≡ a.joined) f l inner w bs (λ cs. refl)
 
-  bytes_ask : (n : Option ℕ) → AskAs (head.Bytes n)
+  pub bytes_ask : (n : Option ℕ) → AskAs (head.Bytes n)
   bytes_ask (Some n) = bytes_always (λ r. asks_string a (untagged r) ≡ a.whole) f l inner w bs (λ c. refl) n
   bytes_ask None = bytes_chunks_always (λ r. asks_string a (untagged r) ≡ a.joined) f l inner w bs (λ cs. refl)
 

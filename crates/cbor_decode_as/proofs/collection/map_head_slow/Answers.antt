@@ -1,4 +1,4 @@
-use Rattle.std.proofs.Common.{◌≡◌, Ok, ap, sym, subst}
+use Rattle.std.proofs.Common.{◌≡◌, Ok, ap, refl, sym, subst}
 use Rattle.cbor_read.specs.Source.{Input}
 use Rattle.cbor_decode.specs.Gives.{Step}
 use Rattle.cbor_decode_as.specs.Takes.{formats_of}
@@ -6,6 +6,8 @@ use Rattle.cbor_decode.specs.declared.head.Head.TheVariants as head
 use Rattle.cbor_decode_as.specs.TaggedHeads.{IsTaggedHead, opened_at}
 use Rattle.cbor_decode_as.proofs.maps.MapHeads.{whole, head_taken, other_head, too_deep_head}
 use Rattle.cbor_decode_as.proofs.arrays.Begins.{begins, begins_stopped, begins_other, begins_too_deep}
+use Rattle.cbor_decode_as.specs.declared.head.HeadAt.{HeadAt}
+use Rattle.cbor_decode_as.proofs.heads.BeginningFaults.{map_deep_fault, mismatch_fault, unopened_fault}
 use Rattle.cbor_decode_as.proofs.collection.map_head_slow.Goals as goal
 
 pub returns-in_default-clause-read : goal.returns-in_default-clause-read
@@ -60,3 +62,25 @@ returns-in-Err-enter-clause-opened g c =
     let old = c.args.decoder.now in
     let u = c.tagged_head.new.decoder in
     rw (c.error-in-Err-enter.ensures.source, c.enter.ensures.source) (begins_too_deep head.Map g.R.Source.refusals old.levels (g.R.Source.source old.source) (g.R.Source.source u.source) u.levels c.in-Ok.head c.error-in-Err-enter.result c.in-Err-enter.ensures.none.0 c.in-Ok.ensures.opened)
+
+-- ---- the fault
+
+pub returns-in-Err-clause-fault : goal.returns-in-Err-clause-fault
+returns-in-Err-clause-fault g c =
+    let old = c.args.decoder.now in
+    let u = c.tagged_head.new.decoder in
+    unopened_fault head.Map g.R.Source.refusals old.levels (g.R.Source.source old.source) c.error.result u.refusal c.in-Err.refused c.error.ensures.reports c.in-Err.ensures.opened.reported
+
+pub returns-in_default-clause-fault : goal.returns-in_default-clause-fault
+returns-in_default-clause-fault g c =
+    let old = c.args.decoder.now in
+    let u = c.tagged_head.new.decoder in
+    let found : HeadAt = record { head = c.in-Ok.head; levels = u.levels } in
+    mismatch_fault head.Map g.R.Source.refusals old.levels (g.R.Source.source old.source) c.mismatch.result found (g.R.Source.source u.source) c.in-Ok.ensures.opened c.in-Ok.head refl c.in_default.not-Map c.mismatch.ensures.told
+
+pub returns-in-Err-enter-clause-fault : goal.returns-in-Err-enter-clause-fault
+returns-in-Err-enter-clause-fault g c =
+    let old = c.args.decoder.now in
+    let u = c.tagged_head.new.decoder in
+    let found : HeadAt = record { head = c.in-Ok.head; levels = u.levels } in
+    map_deep_fault head.Map g.R.Source.refusals old.levels (g.R.Source.source old.source) c.error-in-Err-enter.result found (g.R.Source.source u.source) c.in-Ok.ensures.opened c.enter.new.self.refusal c.in-Err-enter.refused c.in-Map.remaining c.in-Map.is c.in-Err-enter.ensures.none.0 c.in-Err-enter.ensures.refused c.in-Err-enter.ensures.kept c.error-in-Err-enter.ensures.reports

@@ -13,6 +13,13 @@ use Rattle.cbor_decode_as.specs.Takes.{formats_of, raws}
 use Rattle.cbor_decode_as.proofs.numbers.Scalars.{refuses, refuses_on}
 use Rattle.cbor_decode_as.proofs.texts.Lending.{text_refuses}
 use Rattle.cbor_decode_as.proofs.texts.Identifiers.{integer_names, text_names, bytes_read, no_integer_refused}
+use Rattle.cbor_read.specs.Source.{asks_for}
+use Rattle.cbor_decode_as.specs.Identifiers.{AsksForName, IsNoLabel, NamesFront, NamesOnly}
+use Rattle.cbor_decode_as.proofs.heads.PassedOver.{unopened_stops}
+use Rattle.cbor_decode_as.proofs.texts.NamedFaults.{bytes_named, bytes_only, names_err, no_memory, other_label, other_only, text_named, text_only}
+use Rattle.std.proofs.Common.{◌≡◌, ℕ, sym, refl, pos, negsuc}
+use Rattle.cbor_decode.specs.declared.head.Head.TheVariants as head
+use Rattle.cbor_decode_as.specs.Scalars.{IsNumber}
 use Rattle.cbor_decode_as.proofs.label.label.Goals as goal
 
 pub returns-in-Some-clause-read : goal.returns-in-Some-clause-read
@@ -78,3 +85,61 @@ returns-in_err-found-clause-read g c =
     let f = formats_of old.formats in
     let s = g.R.Source.source old.source in
     rw (passed.1, passed.2) (λ e made. refuses g.R.Source.refusals (PassesTags (IsLabel c.args.labels.now)) (λ l. item_at (raws f l) old.levels) s c.scalar_head.new.decoder.refusal c.in_err-found.field-0.0 e made c.in_err-found.ensures.read.1)
+
+-- ---- the fault, and memory
+
+pub returns-in_err-found-clause-fault : goal.returns-in_err-found-clause-fault
+returns-in_err-found-clause-fault g c =
+    let passed = err_from_is_err_and c.from_residual.result c.from_residual.ensures.1 in
+    let s = g.R.Source.source c.args.decoder.now.source in
+    rw (passed.1, passed.2) (unopened_stops g.R.Source.refusals c.args.decoder.now.levels s _ _ c.in_err-found.ensures.opened.reported)
+
+pub returns-in_err-found-clause-memory : goal.returns-in_err-found-clause-memory
+returns-in_err-found-clause-memory g c =
+    let passed = err_from_is_err_and c.from_residual.result c.from_residual.ensures.1 in
+    rw (passed.1, passed.2) (no_memory _ c.scalar_head.new.decoder.refusal _ c.in_err-found.ensures.memory)
+
+pub returns-in_err-text_name-in-Text-clause-fault : goal.returns-in_err-text_name-in-Text-clause-fault
+returns-in_err-text_name-in-Text-clause-fault g c =
+    let passed = err_from_is_err_and c.from_residual-in_err-text_name-in-Text.result c.from_residual-in_err-text_name-in-Text.ensures.1 in
+    let s = g.R.Source.source c.args.decoder.now.source in
+    let m = g.R.Source.source c.scalar_head.new.decoder.source in
+    rw (passed.1, passed.2) (text_named g.R.Source.refusals c.in_ok-found.found c.args.decoder.now.levels s m c.in_ok-found.ensures.opened IsNoLabel c.in-Text.n c.text_name.new.decoder.refusal _ c.in-Text.is c.in_err-text_name-in-Text.ensures.fault)
+
+pub returns-in_err-text_name-in-Text-clause-memory : goal.returns-in_err-text_name-in-Text-clause-memory
+returns-in_err-text_name-in-Text-clause-memory g c =
+    let passed = err_from_is_err_and c.from_residual-in_err-text_name-in-Text.result c.from_residual-in_err-text_name-in-Text.ensures.1 in
+    let s = g.R.Source.source c.args.decoder.now.source in
+    let m = g.R.Source.source c.scalar_head.new.decoder.source in
+    rw (passed.1, passed.2) (text_only g.R.Source.refusals c.in_ok-found.found c.args.decoder.now.levels s m c.in_ok-found.ensures.opened (asks_for g.R.Source.refusals g.R.Source.lends) c.in-Text.n c.text_name.new.decoder.refusal _ c.in-Text.is c.in_err-text_name-in-Text.ensures.memory)
+
+pub returns-in-Bytes-clause-fault : goal.returns-in-Bytes-clause-fault
+returns-in-Bytes-clause-fault g c =
+    let s = g.R.Source.source c.args.decoder.now.source in
+    let m = g.R.Source.source c.scalar_head.new.decoder.source in
+    let kept = c.bytes_name.new.decoder.refusal in
+    names_err _ (NamesFront IsNoLabel g.R.Source.refusals c.args.decoder.now.levels s kept) c.bytes_name.result (λ w. bytes_named g.R.Source.refusals c.in_ok-found.found c.args.decoder.now.levels s m c.in_ok-found.ensures.opened IsNoLabel c.in-Bytes.n kept w c.in-Bytes.is) c.bytes_name.ensures.fault
+
+pub returns-in-Bytes-clause-memory : goal.returns-in-Bytes-clause-memory
+returns-in-Bytes-clause-memory g c =
+    let s = g.R.Source.source c.args.decoder.now.source in
+    let m = g.R.Source.source c.scalar_head.new.decoder.source in
+    let kept = c.bytes_name.new.decoder.refusal in
+    let asks = asks_for g.R.Source.refusals g.R.Source.lends in
+    names_err _ (NamesOnly (AsksForName asks c.args.decoder.now.levels s) kept) c.bytes_name.result (λ w. bytes_only g.R.Source.refusals c.in_ok-found.found c.args.decoder.now.levels s m c.in_ok-found.ensures.opened asks c.in-Bytes.n kept w c.in-Bytes.is) c.bytes_name.ensures.memory
+
+pub returns-in_default-head-clause-fault : goal.returns-in_default-head-clause-fault
+returns-in_default-head-clause-fault g c =
+    let s = g.R.Source.source c.args.decoder.now.source in
+    let m = g.R.Source.source c.scalar_head.new.decoder.source in
+    let h = c.in_ok-found.found.head in
+    let none = c.in_default.ensures in
+    let unsigned : (n : ℕ) → h ≡ head.Unsigned n → ⊥ = λ n is. none (pos n) (subst (λ (x : Head). IsNumber x (pos n)) (sym is) refl) in
+    let negative : (n : ℕ) → h ≡ head.Negative n → ⊥ = λ n is. none (negsuc n) (subst (λ (x : Head). IsNumber x (negsuc n)) (sym is) refl) in
+    other_label g.R.Source.refusals c.in_ok-found.found c.args.decoder.now.levels s m c.in_ok-found.ensures.opened c.no_name.new.decoder.refusal c.no_name.result unsigned negative c.in_default-head.not-Text c.in_default-head.not-Bytes c.no_name.ensures.why
+
+pub returns-in_default-head-clause-memory : goal.returns-in_default-head-clause-memory
+returns-in_default-head-clause-memory g c =
+    let s = g.R.Source.source c.args.decoder.now.source in
+    let m = g.R.Source.source c.scalar_head.new.decoder.source in
+    other_only g.R.Source.refusals c.in_ok-found.found c.args.decoder.now.levels s m c.in_ok-found.ensures.opened _ c.in_ok-found.found.head c.no_name.new.decoder.refusal c.no_name.result c.no_name.ensures.why

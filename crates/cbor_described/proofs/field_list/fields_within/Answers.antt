@@ -14,6 +14,17 @@ use Rattle.cbor_described.proofs.FieldLists.{unread, begins_with, value_in, valu
 use Rattle.cbor_de.specs.Forms.{MayReport, any_of, key_form, never}
 use Rattle.cbor_decode.proofs.facts.Steps.{advances_some}
 use Rattle.cbor_de.proofs.facts.Forms.{key_in_map, later_in, of_left, took_then}
+use Rattle.std.proofs.Common.{ℕ, List, Some, true, false, sym}
+use Rattle.cbor_model.specs.Reader.{item_at}
+use Rattle.cbor_read.specs.Source.{asks_for}
+use Rattle.cbor_decode.specs.Gives.{Limits}
+use Rattle.cbor_decode.specs.HasChunks.{AsksWhere, HasChunks}
+use Rattle.cbor_decode_as.specs.Takes.{IsRead, raws}
+use Rattle.cbor_de.specs.Structs.{IsAny}
+use Rattle.cbor_de.specs.StructMemory.{AsksForValue}
+use Rattle.cbor_de.specs.declared.field.Field.{Field}
+use Rattle.cbor_de.proofs.facts.Structs.{gathered_twice, gathered_value, head_asked, key_asked, missing_asked, value_asked}
+use Rattle.cbor_described.proofs.FieldLists.{FieldAsks, field_asks, memory_from, value_asks}
 use Rattle.cbor_described.proofs.field_list.fields_within.Goals as goal
 
 -- ---- the map's head
@@ -213,3 +224,101 @@ returns-in_err-skip_item-in-Unknown-clause-form g c =
 pub returns-clause-taken : goal.returns-clause-taken
 returns-clause-taken g c =
     advances_some _ _ _ c.fields.invariant.advances (took_then c.in_ok-field.ensures.read.took c.in_ok-end_map.ensures.read.took)
+
+-- ---- memory
+
+pub returns-in_err-remaining-clause-memory : goal.returns-in_err-remaining-clause-memory
+returns-in_err-remaining-clause-memory g c =
+    let passed = err_from_is_err_and c.from_residual.result c.from_residual.ensures.1 in
+    let old = c.args.de.now.decoder in
+    let keys = keys_of c.args.keys.now in
+    let keyed = IsKeyed keys in
+    let fields = λ (f : Formats). g.F.FieldList.fields (context f g.R.Source.lends) in
+    let slots = λ (f : Formats). g.F.FieldList.slots (context f g.R.Source.lends) in
+    let a = asks_for g.R.Source.refusals g.R.Source.lends in
+    let values = g.F.FieldList.asks a in
+    let s = g.R.Source.source old.source in
+    rw (passed.1, passed.2) (head_asked keyed (fields old.formats) a values old.formats old.levels s c.in_err-remaining.field-0.0 c.in_err-remaining.ensures.memory)
+
+pub returns-in_err-field-clause-memory : goal.returns-in_err-field-clause-memory
+returns-in_err-field-clause-memory g c =
+    let passed = err_from_is_err_and c.from_residual-in_err-field.result c.from_residual-in_err-field.ensures.1 in
+    let old = c.args.de.now.decoder in
+    let keys = keys_of c.args.keys.now in
+    let keyed = IsKeyed keys in
+    let fields = λ (f : Formats). g.F.FieldList.fields (context f g.R.Source.lends) in
+    let slots = λ (f : Formats). g.F.FieldList.slots (context f g.R.Source.lends) in
+    let a = asks_for g.R.Source.refusals g.R.Source.lends in
+    let values = g.F.FieldList.asks a in
+    let s = g.R.Source.source old.source in
+    rw (passed.1, passed.2) (key_asked keyed (fields old.formats) a values c.fields.invariant.so_far c.in_err-field.field-0.0 c.in_err-field.ensures.memory)
+
+pub returns-in_err-take-in-Known-clause-memory : goal.returns-in_err-take-in-Known-clause-memory
+returns-in_err-take-in-Known-clause-memory g c =
+    let passed = err_from_is_err_and c.from_residual-in_err-take-in-Known.result c.from_residual-in_err-take-in-Known.ensures.1 in
+    let old = c.args.de.now.decoder in
+    let keys = keys_of c.args.keys.now in
+    let keyed = IsKeyed keys in
+    let fields = λ (f : Formats). g.F.FieldList.fields (context f g.R.Source.lends) in
+    let slots = λ (f : Formats). g.F.FieldList.slots (context f g.R.Source.lends) in
+    let a = asks_for g.R.Source.refusals g.R.Source.lends in
+    let values = g.F.FieldList.asks a in
+    let s = g.R.Source.source old.source in
+    let so = c.fields.invariant.so_far in
+    let next = c.in_ok-field.ensures in
+    let now = c.next_key.new.de.decoder in
+    let kept = c.take_at_hand.new.de.decoder in
+    let none = c.take_at_hand.ensures in
+    let e = c.in_err-take-in-Known.field-0.0 in
+    let i = c.in-Known.i in
+    let here : g.R.Source.source kept.source ≡ g.R.Source.source now.source = rw c.if-take_at_hand.false at none.read in
+    let held : c.take_at_hand.new.held ≡ c.fields.held = rw c.if-take_at_hand.false at none.held in
+    let u = g.R.Source.source now.source in
+    let memory = memory_from fields slots kept.formats kept.levels values c.fields.held c.take_at_hand.new.held held u (g.R.Source.source kept.source) here i e c.in_err-take-in-Known.ensures.memory in
+    let V = λ (h : Formats) (n : ℕ) (l : Limits) (bs : List ℕ). FieldAsks (formats_of h) n l bs values (fields h) i (slots h c.fields.held) in
+    rw (passed.1, passed.2) (value_asked keyed (fields old.formats) a values so c.in_ok-field.field-0 c.in-Some.field c.in-Some.is c.next_key.new.remaining next.read (none.settings.formats ∙ next.settings.formats) (none.settings.levels ∙ next.settings.levels) e V
+    (λ l bs front k v more x after holds named is all asks.
+    let key = subst (λ (field : Field). keyed k field) c.in-Known.is named in
+    let asked = value_asks (formats_of old.formats) so.deep values (fields old.formats) i (slots old.formats c.fields.held) l bs after v is
+    (λ some. gathered_twice keyed (fields old.formats) (slots old.formats c.fields.held) front k v i more x some holds key all)
+    (λ missing. gathered_value keyed (fields old.formats) (slots old.formats c.fields.held) front k v i more x missing holds key all) asks in
+    subst (λ (field : Field). AsksForValue a values field v) (sym c.in-Known.is) asked)
+    (field_asks (formats_of kept.formats) kept.levels values (fields kept.formats) i (slots kept.formats c.fields.held) u e memory))
+
+pub returns-in_err-skip_item-in-Unknown-clause-memory : goal.returns-in_err-skip_item-in-Unknown-clause-memory
+returns-in_err-skip_item-in-Unknown-clause-memory g c =
+    let passed = err_from_is_err_and c.from_residual-in_err-skip_item-in-Unknown.result c.from_residual-in_err-skip_item-in-Unknown.ensures.1 in
+    let old = c.args.de.now.decoder in
+    let keys = keys_of c.args.keys.now in
+    let keyed = IsKeyed keys in
+    let fields = λ (f : Formats). g.F.FieldList.fields (context f g.R.Source.lends) in
+    let slots = λ (f : Formats). g.F.FieldList.slots (context f g.R.Source.lends) in
+    let a = asks_for g.R.Source.refusals g.R.Source.lends in
+    let values = g.F.FieldList.asks a in
+    let s = g.R.Source.source old.source in
+    let next = c.in_ok-field.ensures in
+    let e = c.in_err-skip_item-in-Unknown.field-0.0 in
+    let V = λ (h : Formats) (n : ℕ) (l : Limits) (bs : List ℕ). (u : Unit {0}) (after : List ℕ) → (got : IsRead IsAny (item_at (raws (formats_of h) l) n bs) u after) → AsksWhere a (HasChunks got.item) in
+    rw (passed.1, passed.2) (value_asked keyed (fields old.formats) a values c.fields.invariant.so_far c.in_ok-field.field-0 c.in-Some.field c.in-Some.is c.next_key.new.remaining next.read next.settings.formats next.settings.levels e V
+    (λ l bs front k v more x after holds named is all asks. subst (λ (field : Field). AsksForValue a values field v) (sym c.in-Unknown.is) (asks tt after (record { item = v; is = is; means = tt })))
+    c.in_err-skip_item-in-Unknown.ensures.memory)
+
+pub returns-in_err-parts-clause-memory : goal.returns-in_err-parts-clause-memory
+returns-in_err-parts-clause-memory g c =
+    let passed = err_from_is_err_and c.from_residual-in_err-parts.result c.from_residual-in_err-parts.ensures.1 in
+    let old = c.args.de.now.decoder in
+    let keys = keys_of c.args.keys.now in
+    let keyed = IsKeyed keys in
+    let fields = λ (f : Formats). g.F.FieldList.fields (context f g.R.Source.lends) in
+    let slots = λ (f : Formats). g.F.FieldList.slots (context f g.R.Source.lends) in
+    let a = asks_for g.R.Source.refusals g.R.Source.lends in
+    let values = g.F.FieldList.asks a in
+    let s = g.R.Source.source old.source in
+    let k = context old.formats g.R.Source.lends in
+    let lacking = lacking_is (fields old.formats) _ (slots old.formats c.fields.held) (code_of c.in_err-parts.field-0.0) (c.in_err-parts.ensures.lacking k) in
+    rw (passed.1, passed.2) (missing_asked keyed (fields old.formats) a values c.fields.invariant.so_far c.in_ok-field.field-0 c.in_default.is c.next_key.new.remaining c.in_ok-field.ensures.read c.in_err-parts.field-0.0 lacking.0 lacking.1)
+
+pub returns-in_err-end_map-clause-memory : goal.returns-in_err-end_map-clause-memory
+returns-in_err-end_map-clause-memory g c =
+    let passed = err_from_is_err_and c.from_residual-in_err-end_map.result c.from_residual-in_err-end_map.ensures.1 in
+    rw (passed.1, passed.2) (λ out bs reports x rest got. absurd (c.in_err-end_map.ensures.memory out))

@@ -5,6 +5,8 @@ use Rattle.cbor_io.specs.Error.{code_of, offset_of}
 use Rattle.cbor_decode_as.specs.Takes.{IsNotRead, context, formats_of, raws}
 use Rattle.cbor_decode_as.proofs.facts.Readings.{refuses_map}
 use Rattle.cbor_described.proofs.Makings.{not_read_as}
+use Rattle.cbor_read.specs.Source.{asks_for}
+use Rattle.cbor_described.proofs.Makings.{memory_as}
 use Rattle.cbor_described.proofs.field_list.fill_slot.Goals as goal
 
 pub returns-in-Err-clause-read : goal.returns-in-Err-clause-read
@@ -18,3 +20,9 @@ returns-in-Err-clause-read g c =
     refuses_map g.R.Source.refusals s (code_of e) (offset_of e) (λ l bs. IsNotRead reads (item_at (raws f l) old.levels bs)) (λ l bs. is_some c.args.slot.now ≡ false → IsNotRead reads (item_at (raws f l) old.levels bs)) (λ l bs unread none. unread)
     (not_read_as (g.A.Of.Readable.reads k) reads g.R.Source.refusals f old.levels s (g.R.Source.source c.deserialize.new.de.decoder.source)
     e (λ r y h. g.met.A.FieldType.back k r y h) c.in-Err.ensures.read)
+
+pub returns-in-Err-clause-memory : goal.returns-in-Err-clause-memory
+returns-in-Err-clause-memory g c = λ none.
+    let old = c.args.de.now.decoder in
+    let k = context old.formats g.R.Source.lends in
+    memory_as (formats_of old.formats) old.levels (g.R.Source.source old.source) c.in-Err.e (g.A.Of.Readable.asks_memory (asks_for g.R.Source.refusals g.R.Source.lends)) (g.A.Of.Readable.reads k) (g.A.FieldType.reads k) (λ r y h. g.met.A.FieldType.back k r y h) c.in-Err.ensures.memory

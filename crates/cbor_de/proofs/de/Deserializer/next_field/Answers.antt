@@ -8,6 +8,15 @@ use Rattle.cbor_de.specs.Structs.{IsKeyed}
 use Rattle.cbor_decode_as.specs.Takes.{formats_of}
 use Rattle.cbor_decode_as.proofs.facts.Places.{bad_key_later}
 use Rattle.cbor_decode_as.proofs.facts.Maps.{none_is_key, there, key_refused, key_next}
+use Rattle.cbor_read.specs.Source.{asks_for}
+use Rattle.cbor_decode_as.specs.Strings.{IsAskedString}
+use Rattle.cbor_decode_as.proofs.facts.Maps.{key_asks}
+use Rattle.cbor_decode_as.proofs.facts.Names.{no_memory}
+use Rattle.cbor_decode_as.proofs.facts.Refusals.{error_only}
+use Rattle.std.proofs.Common.{inl, inr}
+use Rattle.cbor_decode_as.specs.MapAccesses.{pair_front}
+use Rattle.cbor_decode_as.proofs.facts.Refusals.{reported_why}
+use Rattle.cbor_de.proofs.refusals.AccessFaults.{name_comes}
 use Rattle.cbor_de.proofs.de.Deserializer.next_field.Goals as goal
 
 pub returns-in_err-more_pairs-clause-read : goal.returns-in_err-more_pairs-clause-read
@@ -66,3 +75,48 @@ returns-in_err-field-clause-bad_key g c =
     let comes : more ≡ true = search rules in
     rw (passed.1, passed.2) (λ e made. bad_key_later g.R.Source.refusals (formats_of old.formats) remaining s new m e
     (there s m remaining new more old.formats comes c.in_ok-more_pairs.ensures.read))
+
+-- ---- memory
+
+pub returns-in_err-field-clause-memory : goal.returns-in_err-field-clause-memory
+returns-in_err-field-clause-memory g c =
+    let passed = err_from_is_err_and c.from_residual-in_err-field.result c.from_residual-in_err-field.ensures.1 in
+    let old = c.args.self.now.decoder in
+    let now = c.more_pairs.new.decoder in
+    let s = g.R.Source.source old.source in
+    let m = g.R.Source.source now.source in
+    let reads = λ (f : Formats). IsKeyed (keys_of c.args.keys.now) in
+    let remaining = c.args.remaining.now in
+    let new = c.more_pairs.new.remaining in
+    let more = c.in_ok-more_pairs.field-0 in
+    let comes : more ≡ true = search rules in
+    rw (passed.1, passed.2) (λ e made. key_asks s m remaining new more reads old.formats now.formats old.levels now.levels c.more_pairs.ensures.settings.formats c.more_pairs.ensures.settings.levels
+    (IsAskedString (asks_for g.R.Source.refusals g.R.Source.lends)) e (there s m remaining new more old.formats comes c.in_ok-more_pairs.ensures.read) (c.in_err-field.ensures.memory e made))
+
+pub returns-in_err-more_pairs-clause-memory : goal.returns-in_err-more_pairs-clause-memory
+returns-in_err-more_pairs-clause-memory g c =
+    let passed = err_from_is_err_and c.from_residual.result c.from_residual.ensures.1 in
+    let kept = c.more_pairs.new.decoder.refusal in
+    rw (passed.1, passed.2) (λ e made out bs reports. absurd (error_only ⊥ kept _ e made (no_memory ⊥ kept _ c.in_err-more_pairs.ensures.memory) out))
+
+-- ---- the fault
+
+pub returns-in_err-more_pairs-clause-fault : goal.returns-in_err-more_pairs-clause-fault
+returns-in_err-more_pairs-clause-fault g c =
+    let passed = err_from_is_err_and c.from_residual.result c.from_residual.ensures.1 in
+    let old = c.args.self.now.decoder in
+    rw (passed.1, passed.2) (λ e made. inl (reported_why g.R.Source.refusals (λ l. pair_front (formats_of old.formats) (remaining_of c.args.remaining.now)) (g.R.Source.source old.source) c.more_pairs.new.decoder.refusal _ e made c.in_err-more_pairs.ensures.fault))
+
+pub returns-in_err-field-clause-fault : goal.returns-in_err-field-clause-fault
+returns-in_err-field-clause-fault g c =
+    let passed = err_from_is_err_and c.from_residual-in_err-field.result c.from_residual-in_err-field.ensures.1 in
+    let old = c.args.self.now.decoder in
+    let now = c.more_pairs.new.decoder in
+    let s = g.R.Source.source old.source in
+    let m = g.R.Source.source now.source in
+    let remaining = c.args.remaining.now in
+    let new = c.more_pairs.new.remaining in
+    let more = c.in_ok-more_pairs.field-0 in
+    let comes : more ≡ true = search rules in
+    rw (passed.1, passed.2) (λ e made. inr (name_comes g.R.Source.refusals (formats_of old.formats) remaining new s m old.levels now.levels e c.more_pairs.ensures.settings.levels
+    (there s m remaining new more old.formats comes c.in_ok-more_pairs.ensures.read) (c.in_err-field.ensures.fault e made)))

@@ -7,6 +7,10 @@ use Rattle.cbor_decode_as.proofs.facts.Places.{bad_key_later, kept_alone}
 use Rattle.cbor_decode_as.proofs.facts.Maps.{none_is_key, there, key_asks, key_refused, key_next}
 use Rattle.std.proofs.Common.{inl}
 use Rattle.cbor_de.proofs.refusals.Forms.{key_of, key_reported, later_in}
+use Rattle.std.proofs.Common.{inr}
+use Rattle.cbor_decode_as.specs.MapAccesses.{pair_front}
+use Rattle.cbor_decode_as.proofs.facts.Refusals.{reported_why}
+use Rattle.cbor_de.proofs.refusals.AccessFaults.{key_comes}
 use Rattle.cbor_de.proofs.map.MapAccess.next_key.Goals as goal
 
 pub returns-in-Err-clause-read : goal.returns-in-Err-clause-read
@@ -80,3 +84,21 @@ pub returns-in-Err-deserialize-clause-form : goal.returns-in-Err-deserialize-cla
 returns-in-Err-deserialize-clause-form g c =
     let e = c.in-Err-deserialize.e in
     inl (later_in g.K.Readable.wrong_forms c.args.self.now.de.now.decoder.formats c.more_pairs.new.decoder.formats _ _ e c.more_pairs.ensures.settings.formats c.in-Ok-true.ensures.read.took c.in-Err-deserialize.ensures.form)
+
+-- ---- the fault
+
+pub returns-in-Err-clause-fault : goal.returns-in-Err-clause-fault
+returns-in-Err-clause-fault g c =
+    let old = c.args.self.now in
+    inl (reported_why g.R.Source.refusals (λ l. pair_front (formats_of old.de.now.decoder.formats) (remaining_of old.remaining)) (g.R.Source.source old.de.now.decoder.source) c.more_pairs.new.decoder.refusal c.in-Err.refused c.error.result c.error.ensures.reports c.in-Err.ensures.fault)
+
+pub returns-in-Err-deserialize-clause-fault : goal.returns-in-Err-deserialize-clause-fault
+returns-in-Err-deserialize-clause-fault g c =
+    let old = c.args.self.now in
+    let now = c.more_pairs.new.decoder in
+    let s = g.R.Source.source old.de.now.decoder.source in
+    let m = g.R.Source.source now.source in
+    let new = c.more_pairs.new.remaining in
+    let more = c.in-Ok-true.field-0 in
+    inr (key_comes g.K.Readable.passes_over g.K.Readable.total g.R.Source.refusals old.de.now.decoder.formats now.formats old.remaining new s m old.de.now.decoder.levels now.levels c.in-Err-deserialize.e c.more_pairs.ensures.settings.formats c.more_pairs.ensures.settings.levels
+    (there s m old.remaining new more old.de.now.decoder.formats c.in-Ok-true.field-0-test c.in-Ok-true.ensures.read) c.in-Err-deserialize.ensures.fault)

@@ -4,6 +4,8 @@ use Rattle.cbor_decode.specs.declared.formats.Formats.{Formats}
 use Rattle.cbor_decode_as.specs.Takes.{context}
 use Rattle.cbor_decode_as.proofs.facts.Arrays.{comes, item_asks, item_refused, item_next}
 use Rattle.cbor_de.proofs.refusals.Forms.{later_in}
+use Rattle.std.proofs.Common.{inl, inr}
+use Rattle.cbor_de.proofs.refusals.AccessFaults.{item_comes}
 use Rattle.cbor_de.proofs.sequence.SeqAccess.next_element.Goals as goal
 
 pub returns-in-Err-deserialize-clause-read : goal.returns-in-Err-deserialize-clause-read
@@ -47,3 +49,19 @@ returns-in-Err-deserialize-clause-memory g c =
     let more = c.in-Ok-true.field-0 in
     item_asks s m old.remaining new more reads old.de.now.decoder.formats now.formats old.de.now.decoder.levels now.levels c.more_items.ensures.settings.formats c.more_items.ensures.settings.levels
     (g.T.Readable.asks_memory (asks_for g.R.Source.refusals g.R.Source.lends)) c.in-Err-deserialize.e (comes s m old.remaining new more c.in-Ok-true.field-0-test c.in-Ok-true.ensures.read) c.in-Err-deserialize.ensures.memory
+
+-- ---- the fault
+
+pub returns-in-Err-clause-fault : goal.returns-in-Err-clause-fault
+returns-in-Err-clause-fault g c = inl c.in-Err.ensures.fault
+
+pub returns-in-Err-deserialize-clause-fault : goal.returns-in-Err-deserialize-clause-fault
+returns-in-Err-deserialize-clause-fault g c =
+    let old = c.args.self.now in
+    let now = c.more_items.new.decoder in
+    let s = g.R.Source.source old.de.now.decoder.source in
+    let m = g.R.Source.source now.source in
+    let new = c.more_items.new.remaining in
+    let more = c.in-Ok-true.field-0 in
+    inr (item_comes g.T.Readable.passes_over g.T.Readable.total g.R.Source.refusals old.de.now.decoder.formats now.formats old.remaining new s m old.de.now.decoder.levels now.levels c.in-Err-deserialize.e c.more_items.ensures.settings.formats c.more_items.ensures.settings.levels
+    (comes s m old.remaining new more c.in-Ok-true.field-0-test c.in-Ok-true.ensures.read) c.in-Err-deserialize.ensures.fault)

@@ -2,6 +2,8 @@ use Rattle.cbor_io.specs.Error.{code_of, offset_of}
 use Rattle.cbor_decode.specs.Heads.{remaining_of}
 use Rattle.cbor_decode_as.specs.Takes.{context, formats_of}
 use Rattle.cbor_decode_as.proofs.facts.Arrays.{part_missing, part_refused}
+use Rattle.cbor_de.specs.ItemLists.{length_text}
+use Rattle.cbor_de.proofs.parts.ItemLists.{short_told, short_unread}
 use Rattle.cbor_de.proofs.sequence.SeqAccess.part.Goals as goal
 
 pub returns-in-Ok-None-clause-read : goal.returns-in-Ok-None-clause-read
@@ -17,3 +19,14 @@ returns-in-Err-clause-read g c =
     let reads = g.T.Readable.reads (context old.de.now.decoder.formats g.R.Source.lends) in
     let e = c.in-Err.e in
     part_refused g.R.Source.refusals reads (formats_of old.de.now.decoder.formats) old.de.now.decoder.levels (remaining_of old.remaining) (g.R.Source.source old.de.now.decoder.source) (code_of e) (offset_of e) c.in-Err.ensures.read
+
+pub returns-in-Ok-None-clause-short : goal.returns-in-Ok-None-clause-short
+returns-in-Ok-None-clause-short g c =
+    let old = c.args.self.now in
+    short_told g.R.Source.refusals (length_text c.args.before c.args.expected) old.remaining (g.R.Source.source old.de.now.decoder.source) c.invalid_length.result c.invalid_length.ensures.text c.invalid_length.ensures.offset
+
+pub returns-in-Err-clause-short : goal.returns-in-Err-clause-short
+returns-in-Err-clause-short g c =
+    let old = c.args.self.now in
+    let reads = g.T.Readable.reads (context old.de.now.decoder.formats g.R.Source.lends) in
+    short_unread g.R.Source.refusals (length_text c.args.before c.args.expected) old.remaining (g.R.Source.source old.de.now.decoder.source) reads (formats_of old.de.now.decoder.formats) old.de.now.decoder.levels c.in-Err.e c.in-Err.ensures.read

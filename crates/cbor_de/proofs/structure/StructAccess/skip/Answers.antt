@@ -11,3 +11,6 @@ returns-in-Err-clause-read g c =
     let old = c.args.self.now.de.now.decoder in
     let e = c.in-Err.e in
     no_item (λ (r : Raw) (x : IgnoredAny). ⊤) (record {}) (λ r. tt) g.R.Source.refusals (formats_of old.formats) old.levels (g.R.Source.source old.source) (code_of e) (offset_of e) c.in-Err.ensures.read
+
+pub returns-in-Err-clause-memory : goal.returns-in-Err-clause-memory
+returns-in-Err-clause-memory g c = λ out bs reports u rest got. c.in-Err.ensures.memory out bs reports (record {}) rest (record { item = got.item; is = got.is; means = tt })

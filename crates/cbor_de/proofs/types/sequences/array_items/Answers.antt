@@ -5,15 +5,14 @@ use Rattle.cbor_decode.specs.Heads.{remaining_of}
 use Rattle.cbor_decode.specs.declared.formats.Formats.{Formats}
 use Rattle.cbor_decode_as.specs.Arrays.{AreRead}
 use Rattle.cbor_decode_as.specs.Takes.{TakesItem, context, formats_of}
-use Rattle.cbor_read.specs.Source.{Input, TookSome}
-use Rattle.cbor_de.proofs.parts.AtHand.{read_here, form_here}
+use Rattle.cbor_read.specs.Source.{TookSome}
 use Rattle.cbor_decode_as.proofs.facts.Arrays.{EachRead, each_none, each_more, each_all, rest_read, may_follow}
 use Rattle.cbor_decode_as.proofs.facts.Arrays.{comes, item_next, item_refused}
 use Rattle.cbor_decode_as.proofs.facts.Arrays.{end_twice, loop_begins, loop_goes_on, loop_refused, end_refused, array_takes_to, array_refused, no_array_read}
 use Rattle.cbor_de.proofs.parts.Elements.{untold_refused, comes_not, nothing_left}
 use Rattle.cbor_decode_as.proofs.facts.Refusals.{refuses_on}
-use Rattle.cbor_decode.proofs.facts.Steps.{took_same, some_then}
-use Rattle.cbor_decode_as.proofs.facts.Readings.{refuses_memory}
+use Rattle.cbor_decode.proofs.facts.Steps.{took_same, took_stays, some_then}
+use Rattle.cbor_decode_as.proofs.facts.Readings.{read_gathered, refuses_memory}
 use Rattle.cbor_de.proofs.refusals.Forms.{later_in}
 use Rattle.cbor_de.proofs.types.sequences.array_items.Goals as goal
 use Rattle.cbor_de.proofs.types.sequences.array_items.Goals.{in-Some, in-None+in-Ok}
@@ -47,25 +46,25 @@ items-preserved g c =
     let i = c.items.invariant in
     let now = c.items.access.de.now in
     let mid = c.more.new.self in
-    let next = c.match-at_hand.access.de.now in
+    let next = c.match-ready.access.de.now in
     let s0 = g.R.Source.source first.decoder.source in
     let s = g.R.Source.source now.decoder.source in
     let m = g.R.Source.source mid.de.now.decoder.source in
     let t = g.R.Source.source next.decoder.source in
     let reads = λ (f : Formats). g.T.Readable.reads (context f g.R.Source.lends) in
     let xs = c.items.items.items in
-    let x = c.match-at_hand.item in
+    let x = c.match-ready.item in
     let ys = c.push_any.new.items.items in
     let pushed : ys ≡ xs ++ x ∷ [] = search rules in
     let came = comes s m c.items.access.remaining mid.remaining c.in-Ok-true.field-0 c.in-Ok-true.field-0-test c.in-Ok-true.ensures.read in
-    let same = c.at_hand.new.de.decoder in
+    let same = c.ready.new.de.decoder in
     let taken : TakesItem g.R.Source.refusals (formats_of mid.de.now.decoder.formats) (reads mid.de.now.decoder.formats) mid.de.now.decoder.levels m t (Ok x) =
-    elim c.match-at_hand.branch [
+    elim c.match-ready.branch [
       | in-Some w ↦ rw (w.access-is, w.item-is) w.in-Some.ensures.read
-      | in-None+in-Ok w ↦ rw (w.access-is, w.item-is) (read_here mid.de.now.decoder.formats same.formats w.in-None.ensures.settings.formats m (g.R.Source.source same.source) w.in-None.ensures.read g.R.Source.refusals reads mid.de.now.decoder.levels same.levels w.in-None.ensures.settings.levels _ (Ok w.in-Ok.item) w.in-Ok.ensures.read)
+      | in-None+in-Ok w ↦ rw (w.access-is, w.item-is) (read_gathered m (g.R.Source.source same.source) w.in-None.ensures.read mid.de.now.decoder.formats same.formats w.in-None.ensures.settings.formats g.R.Source.refusals reads mid.de.now.decoder.levels same.levels w.in-None.ensures.settings.levels _ (Ok w.in-Ok.item) w.in-Ok.ensures.read)
     ] in
-    let levels : next.decoder.levels ≡ mid.de.now.decoder.levels = elim c.match-at_hand.branch [ in-Some w ↦ search rules | in-None+in-Ok w ↦ search rules ] in
-    let formats : next.decoder.formats ≡ mid.de.now.decoder.formats = elim c.match-at_hand.branch [ in-Some w ↦ search rules | in-None+in-Ok w ↦ search rules ] in
+    let levels : next.decoder.levels ≡ mid.de.now.decoder.levels = elim c.match-ready.branch [ in-Some w ↦ search rules | in-None+in-Ok w ↦ search rules ] in
+    let formats : next.decoder.formats ≡ mid.de.now.decoder.formats = elim c.match-ready.branch [ in-Some w ↦ search rules | in-None+in-Ok w ↦ search rules ] in
     let read = item_next s m c.items.access.remaining mid.remaining c.in-Ok-true.field-0 reads now.decoder.formats mid.de.now.decoder.formats now.decoder.levels mid.de.now.decoder.levels c.more.ensures.settings.formats (search rules) t x came taken in
     record {
       same = search rules;
@@ -114,8 +113,8 @@ returns-in-Err-deserialize-clause-read g c =
     let P = EachRead (reads old.decoder.formats) xs in
     let items = AreRead (reads old.decoder.formats) in
     let came = comes s m c.items.access.remaining mid.remaining c.in-Ok-true.field-0 c.in-Ok-true.field-0-test c.in-Ok-true.ensures.read in
-    let same = c.at_hand.new.de.decoder in
-    let none = read_here mid.de.now.decoder.formats same.formats c.in-None.ensures.settings.formats m (g.R.Source.source same.source) c.in-None.ensures.read g.R.Source.refusals reads mid.de.now.decoder.levels same.levels c.in-None.ensures.settings.levels _ (Err e) c.in-Err-deserialize.ensures.read in
+    let same = c.ready.new.de.decoder in
+    let none = read_gathered m (g.R.Source.source same.source) c.in-None.ensures.read mid.de.now.decoder.formats same.formats c.in-None.ensures.settings.formats g.R.Source.refusals reads mid.de.now.decoder.levels same.levels c.in-None.ensures.settings.levels _ (Err e) c.in-Err-deserialize.ensures.read in
     let refused = item_refused s m c.items.access.remaining mid.remaining c.in-Ok-true.field-0 reads now.decoder.formats mid.de.now.decoder.formats now.decoder.levels mid.de.now.decoder.levels c.more.ensures.settings.formats (search rules)
     g.R.Source.refusals (code_of e) (offset_of e) came none in
     rw c.refuse.ensures.error (refuses_on (array_refused s0 P old.decoder.formats now.decoder.formats first.decoder.levels now.decoder.levels i.formats i.levels c.in_ok-access.access.remaining
@@ -170,11 +169,11 @@ returns-then-is_err-clause-read g c =
     let e = c.from.result in
     let memory : IsOutOfMemory e = search rules in
     let m = g.R.Source.source c.more.new.self.de.now.decoder.source in
-    let same = c.at_hand.new.de.decoder in
-    let took : TookSome m (g.R.Source.source c.match-at_hand.access.de.now.decoder.source) =
-    elim c.match-at_hand.branch [
+    let same = c.ready.new.de.decoder in
+    let took : TookSome m (g.R.Source.source c.match-ready.access.de.now.decoder.source) =
+    elim c.match-ready.branch [
       | in-Some w ↦ rw w.access-is w.in-Some.ensures.read.took
-      | in-None+in-Ok w ↦ rw w.access-is (subst (λ (x : Input). TookSome x (g.R.Source.source w.deserialize.new.de.decoder.source)) w.in-None.ensures.read w.in-Ok.ensures.read.took)
+      | in-None+in-Ok w ↦ rw w.access-is (some_then _ _ _ (took_stays _ _ w.in-None.ensures.read) w.in-Ok.ensures.read.took)
     ] in
     rw c.refuse-then-is_err.ensures.error (refuses_memory g.R.Source.refusals (g.R.Source.source old.decoder.source) (code_of e) (offset_of e) _ memory.0 memory.1
     (some_then _ _ _ c.in_ok-access.ensures.head.took (some_then _ _ _ c.items.invariant.so_far.took (some_then _ _ _ c.in-Ok-true.ensures.read.took (some_then _ _ _ took (took_same (search rules)))))))
@@ -184,6 +183,6 @@ returns-in-Err-deserialize-clause-form g c =
     let i = c.items.invariant in
     let took = some_then _ _ _ c.in_ok-access.ensures.head.took (some_then _ _ _ i.so_far.took c.in-Ok-true.ensures.read.took) in
     let mid = c.more.new.self.de.now.decoder in
-    let same = c.at_hand.new.de.decoder in
-    let form = form_here mid.formats same.formats c.in-None.ensures.settings.formats (g.R.Source.source mid.source) (g.R.Source.source same.source) c.in-None.ensures.read g.T.Readable.wrong_forms c.in-Err-deserialize.e c.in-Err-deserialize.ensures.form in
+    let same = c.ready.new.de.decoder in
+    let form = later_in g.T.Readable.wrong_forms mid.formats same.formats _ _ c.in-Err-deserialize.e c.in-None.ensures.settings.formats (took_stays _ _ c.in-None.ensures.read) c.in-Err-deserialize.ensures.form in
     rw c.refuse.ensures.error (later_in g.T.Readable.wrong_forms c.args.de.now.decoder.formats mid.formats _ _ c.in-Err-deserialize.e (c.more.ensures.settings.formats ∙ i.formats) took form)

@@ -5,6 +5,10 @@ use Rattle.cbor_described.specs.FieldLists.{over, slots_over}
 use Rattle.cbor_described.proofs.FieldLists.{slot_taken, taken_behind, twice_behind}
 use Rattle.cbor_de.specs.Forms.{key_form}
 use Rattle.cbor_described.proofs.FieldForms.{of_first, of_others}
+use Rattle.cbor_read.specs.Source.{asks_for}
+use Rattle.cbor_de.specs.StructMemory.{field_then}
+use Rattle.cbor_described.proofs.FieldLists.{memory_behind, slot_memory}
+use Rattle.cbor_described.proofs.Makings.{err_map}
 use Rattle.cbor_described.proofs.field_list.Tuple2ReadFields.take.Goals as goal
 
 pub returns-then-i-ne0-clause-read : goal.returns-then-i-ne0-clause-read
@@ -34,3 +38,25 @@ returns-then-i-ne0-clause-twice g c =
     let i = c.args.i in
     let place : i ≡ 1 + (i - 1) = omega (arith, c.if-i-ne0.true) in
     twice_behind (λ p. p.1) g.F.FieldList.fields (λ k. field_or (g.A.FieldType.reads k) g.A.FieldType.missing (λ p. p.0) ∷ []) i (i - 1) (λ k. place) (λ k. (c.args.held.now.0, tt)) (λ k. g.F.FieldList.slots k c.args.held.now.1) _ c.take.result c.take.ensures.twice
+
+-- ---- memory
+
+pub returns-then-i-ne0-clause-memory : goal.returns-then-i-ne0-clause-memory
+returns-then-i-ne0-clause-memory g c =
+    let old = c.args.de.now.decoder in
+    let k = context old.formats g.R.Source.lends in
+    let a = asks_for g.R.Source.refusals g.R.Source.lends in
+    let s = g.R.Source.source old.source in
+    let held = c.args.held.now in
+    let i = c.args.i in
+    let place : i ≡ 1 + (i - 1) = omega (arith, c.if-i-ne0.true) in
+    err_map _ _ c.take.result (λ e. memory_behind (formats_of old.formats) old.levels s e (λ p. p.1) (g.F.FieldList.fields k) (field_or (g.A.FieldType.reads k) g.A.FieldType.missing (λ p. p.0) ∷ []) (field_then (g.A.Of.Readable.asks_memory a) (g.F.FieldList.asks a)) i (i - 1) place (held.0, tt) (g.F.FieldList.slots k held.1)) c.take.ensures.memory
+
+pub returns-clause-memory : goal.returns-clause-memory
+returns-clause-memory g c =
+    let old = c.args.de.now.decoder in
+    let k = context old.formats g.R.Source.lends in
+    let a = asks_for g.R.Source.refusals g.R.Source.lends in
+    let s = g.R.Source.source old.source in
+    let held = c.args.held.now in
+    err_map _ _ c.take_slot.result (λ e. slot_memory (formats_of old.formats) old.levels s e [] (field_or (g.A.FieldType.reads k) g.A.FieldType.missing (λ p. p.0)) (over (λ p. p.1) (g.F.FieldList.fields k)) (field_then (g.A.Of.Readable.asks_memory a) (g.F.FieldList.asks a)) c.args.i c.if-i-ne0.false tt held.0 (slots_over (λ p. p.1) (g.F.FieldList.fields k) (g.F.FieldList.slots k held.1))) c.take_slot.ensures.memory

@@ -5,6 +5,10 @@ use Rattle.cbor_described.specs.FieldLists.{over, slots_over}
 use Rattle.cbor_described.proofs.FieldLists.{slot_taken, taken_behind, twice_behind}
 use Rattle.cbor_de.specs.Forms.{any_of, key_form}
 use Rattle.cbor_described.proofs.FieldForms.{of_first, of_others}
+use Rattle.cbor_read.specs.Source.{asks_for}
+use Rattle.cbor_de.specs.StructMemory.{field_then}
+use Rattle.cbor_described.proofs.FieldLists.{memory_behind, slot_memory}
+use Rattle.cbor_described.proofs.Makings.{err_map}
 use Rattle.cbor_described.proofs.field_list.Tuple5ReadFields.take.Goals as goal
 
 pub returns-in-0-clause-read : goal.returns-in-0-clause-read
@@ -86,3 +90,52 @@ returns-in_default-clause-twice g c =
     let place : i ≡ 4 + (i - 4) = omega (arith, c.in_default) in
     twice_behind (λ p. p.4) g.F.FieldList.fields (λ k. field_or (g.A.FieldType.reads k) g.A.FieldType.missing (λ p. p.0) ∷ field_or (g.B.FieldType.reads k) g.B.FieldType.missing (λ p. p.1) ∷ field_or (g.C.FieldType.reads k) g.C.FieldType.missing (λ p. p.2) ∷ field_or (g.D.FieldType.reads k) g.D.FieldType.missing (λ p. p.3) ∷ [])
     i (i - 4) (λ k. place) (λ k. (held.0, (held.1, (held.2, (held.3, tt))))) (λ k. g.F.FieldList.slots k held.4) _ c.take.result c.take.ensures.twice
+
+-- ---- memory
+
+pub returns-in-0-clause-memory : goal.returns-in-0-clause-memory
+returns-in-0-clause-memory g c =
+    let old = c.args.de.now.decoder in
+    let k = context old.formats g.R.Source.lends in
+    let a = asks_for g.R.Source.refusals g.R.Source.lends in
+    let s = g.R.Source.source old.source in
+    let held = c.args.held.now in
+    err_map _ _ c.take_slot.result (λ e. slot_memory (formats_of old.formats) old.levels s e ([]) (field_or (g.A.FieldType.reads k) g.A.FieldType.missing (λ p. p.0)) (field_or (g.B.FieldType.reads k) g.B.FieldType.missing (λ p. p.1) ∷ field_or (g.C.FieldType.reads k) g.C.FieldType.missing (λ p. p.2) ∷ field_or (g.D.FieldType.reads k) g.D.FieldType.missing (λ p. p.3) ∷ over (λ p. p.4) (g.F.FieldList.fields k)) (field_then (g.A.Of.Readable.asks_memory a) (field_then (g.B.Of.Readable.asks_memory a) (field_then (g.C.Of.Readable.asks_memory a) (field_then (g.D.Of.Readable.asks_memory a) (g.F.FieldList.asks a))))) c.args.i c.in-0.is tt held.0 (held.1, (held.2, (held.3, slots_over (λ p. p.4) (g.F.FieldList.fields k) (g.F.FieldList.slots k held.4))))) c.take_slot.ensures.memory
+
+pub returns-in-1-clause-memory : goal.returns-in-1-clause-memory
+returns-in-1-clause-memory g c =
+    let old = c.args.de.now.decoder in
+    let k = context old.formats g.R.Source.lends in
+    let a = asks_for g.R.Source.refusals g.R.Source.lends in
+    let s = g.R.Source.source old.source in
+    let held = c.args.held.now in
+    err_map _ _ c.take_slot-in-1.result (λ e. slot_memory (formats_of old.formats) old.levels s e (field_or (g.A.FieldType.reads k) g.A.FieldType.missing (λ p. p.0) ∷ []) (field_or (g.B.FieldType.reads k) g.B.FieldType.missing (λ p. p.1)) (field_or (g.C.FieldType.reads k) g.C.FieldType.missing (λ p. p.2) ∷ field_or (g.D.FieldType.reads k) g.D.FieldType.missing (λ p. p.3) ∷ over (λ p. p.4) (g.F.FieldList.fields k)) (field_then (g.A.Of.Readable.asks_memory a) (field_then (g.B.Of.Readable.asks_memory a) (field_then (g.C.Of.Readable.asks_memory a) (field_then (g.D.Of.Readable.asks_memory a) (g.F.FieldList.asks a))))) c.args.i c.in-1.is (held.0, tt) held.1 (held.2, (held.3, slots_over (λ p. p.4) (g.F.FieldList.fields k) (g.F.FieldList.slots k held.4)))) c.take_slot-in-1.ensures.memory
+
+pub returns-in-2-clause-memory : goal.returns-in-2-clause-memory
+returns-in-2-clause-memory g c =
+    let old = c.args.de.now.decoder in
+    let k = context old.formats g.R.Source.lends in
+    let a = asks_for g.R.Source.refusals g.R.Source.lends in
+    let s = g.R.Source.source old.source in
+    let held = c.args.held.now in
+    err_map _ _ c.take_slot-in-2.result (λ e. slot_memory (formats_of old.formats) old.levels s e (field_or (g.A.FieldType.reads k) g.A.FieldType.missing (λ p. p.0) ∷ field_or (g.B.FieldType.reads k) g.B.FieldType.missing (λ p. p.1) ∷ []) (field_or (g.C.FieldType.reads k) g.C.FieldType.missing (λ p. p.2)) (field_or (g.D.FieldType.reads k) g.D.FieldType.missing (λ p. p.3) ∷ over (λ p. p.4) (g.F.FieldList.fields k)) (field_then (g.A.Of.Readable.asks_memory a) (field_then (g.B.Of.Readable.asks_memory a) (field_then (g.C.Of.Readable.asks_memory a) (field_then (g.D.Of.Readable.asks_memory a) (g.F.FieldList.asks a))))) c.args.i c.in-2.is (held.0, (held.1, tt)) held.2 (held.3, slots_over (λ p. p.4) (g.F.FieldList.fields k) (g.F.FieldList.slots k held.4))) c.take_slot-in-2.ensures.memory
+
+pub returns-in-3-clause-memory : goal.returns-in-3-clause-memory
+returns-in-3-clause-memory g c =
+    let old = c.args.de.now.decoder in
+    let k = context old.formats g.R.Source.lends in
+    let a = asks_for g.R.Source.refusals g.R.Source.lends in
+    let s = g.R.Source.source old.source in
+    let held = c.args.held.now in
+    err_map _ _ c.take_slot-in-3.result (λ e. slot_memory (formats_of old.formats) old.levels s e (field_or (g.A.FieldType.reads k) g.A.FieldType.missing (λ p. p.0) ∷ field_or (g.B.FieldType.reads k) g.B.FieldType.missing (λ p. p.1) ∷ field_or (g.C.FieldType.reads k) g.C.FieldType.missing (λ p. p.2) ∷ []) (field_or (g.D.FieldType.reads k) g.D.FieldType.missing (λ p. p.3)) (over (λ p. p.4) (g.F.FieldList.fields k)) (field_then (g.A.Of.Readable.asks_memory a) (field_then (g.B.Of.Readable.asks_memory a) (field_then (g.C.Of.Readable.asks_memory a) (field_then (g.D.Of.Readable.asks_memory a) (g.F.FieldList.asks a))))) c.args.i c.in-3.is (held.0, (held.1, (held.2, tt))) held.3 (slots_over (λ p. p.4) (g.F.FieldList.fields k) (g.F.FieldList.slots k held.4))) c.take_slot-in-3.ensures.memory
+
+pub returns-in_default-clause-memory : goal.returns-in_default-clause-memory
+returns-in_default-clause-memory g c =
+    let old = c.args.de.now.decoder in
+    let k = context old.formats g.R.Source.lends in
+    let a = asks_for g.R.Source.refusals g.R.Source.lends in
+    let s = g.R.Source.source old.source in
+    let held = c.args.held.now in
+    let i = c.args.i in
+    let place : i ≡ 4 + (i - 4) = omega (arith, c.in_default) in
+    err_map _ _ c.take.result (λ e. memory_behind (formats_of old.formats) old.levels s e (λ p. p.4) (g.F.FieldList.fields k) (field_or (g.A.FieldType.reads k) g.A.FieldType.missing (λ p. p.0) ∷ field_or (g.B.FieldType.reads k) g.B.FieldType.missing (λ p. p.1) ∷ field_or (g.C.FieldType.reads k) g.C.FieldType.missing (λ p. p.2) ∷ field_or (g.D.FieldType.reads k) g.D.FieldType.missing (λ p. p.3) ∷ []) (field_then (g.A.Of.Readable.asks_memory a) (field_then (g.B.Of.Readable.asks_memory a) (field_then (g.C.Of.Readable.asks_memory a) (field_then (g.D.Of.Readable.asks_memory a) (g.F.FieldList.asks a))))) i (i - 4) place (held.0, (held.1, (held.2, (held.3, tt)))) (g.F.FieldList.slots k held.4)) c.take.ensures.memory

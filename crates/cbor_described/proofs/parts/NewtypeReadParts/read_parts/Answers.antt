@@ -2,6 +2,7 @@ use Rattle.cbor_model.specs.Raw.{Raw}
 use Rattle.cbor_parts.specs.declared.Newtype.{Newtype}
 use Rattle.cbor_decode_as.specs.Takes.{context, formats_of}
 use Rattle.cbor_described.proofs.Makings.{read_as, not_read_as}
+use Rattle.cbor_described.proofs.Makings.{memory_made}
 use Rattle.cbor_described.proofs.parts.NewtypeReadParts.read_parts.Goals as goal
 
 pub returns-in-Ok-clause-read : goal.returns-in-Ok-clause-read
@@ -17,3 +18,8 @@ returns-in-Err-clause-read g c =
     let reads = g.T.Readable.reads (context old.formats g.R.Source.lends) in
     not_read_as reads (λ (r : Raw) (p : Newtype g.row.T.Denot). reads r p.0) g.R.Source.refusals (formats_of old.formats) old.levels (g.R.Source.source old.source) (g.R.Source.source c.deserialize.new.de.decoder.source)
     c.in-Err.e (λ r p h. (p.0, h)) c.in-Err.ensures.read
+
+pub returns-in-Err-clause-memory : goal.returns-in-Err-clause-memory
+returns-in-Err-clause-memory g c =
+    let old = c.args.de.now.decoder in
+    memory_made (formats_of old.formats) old.levels (g.R.Source.source old.source) c.in-Err.e (λ (p : Newtype g.row.T.Denot). p.0) _ _ c.in-Err.ensures.memory

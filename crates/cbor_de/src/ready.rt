@@ -1,0 +1,49 @@
+//! Items that are at hand, or that a source can bring there.
+
+ghost use Rattle.std.specs.Prelude.{IfErr, OnSome};
+ghost use Rattle.cbor_decode.specs.Decoder.{SameSettings};
+ghost use Rattle.cbor_decode_as.specs.Takes.{context};
+ghost use Rattle.cbor_de.specs.Calls as call;
+
+use crate::de::Deserializer;
+use crate::deserialize::{Deserialize, Readable};
+use cbor_io::error::Result;
+use cbor_read::{Read, Source};
+
+// Reads the item at the front, if it is whole at hand, or if the source can bring the rest of its
+// head there. None as `at_hand` returns it, though more bytes may be at hand then.
+#[inline(always)]
+#[tactic(auto, using(cbor_read::proofs::facts::Sources::stays_same))]
+pub(crate) fn ready<T: Readable, R: Source>(de: &mut Deserializer<R>) -> Option<T>
+    ensures read { call.TakesGathered R.source R.refusals
+        (T.reads (context de.old.decoder.formats R.lends)) de.old de.new result }
+    ensures taken { OnSome result (call.Advances R.source de.old de.new) }
+    ensures settings { SameSettings de.old.decoder de.new.decoder }
+{
+    if let Some(item) = T::at_hand(de) {
+        return Some(item);
+    }
+    if !T::is_gathered() {
+        return None;
+    }
+    if !de.decoder.gather_head() {
+        return None;
+    }
+    T::at_hand(de)
+}
+
+// The same, and any item by `deserialize`.
+#[tactic(auto, using(crate::proofs::refusals::Forms::plain))]
+pub(crate) fn read_ready<'de, R: Read<'de>, T: Deserialize<'de, R>>(
+    de: &mut Deserializer<R>,
+) -> Result<T>
+    ensures read { call.TakesItem R.source R.refusals
+        (T.reads (context de.old.decoder.formats R.lends)) de.old de.new result }
+    ensures form { IfErr result (call.MayReport R.source T.wrong_forms de.old) }
+    ensures settings { SameSettings de.old.decoder de.new.decoder }
+{
+    match ready::<T, R>(de) {
+        Some(item) => Ok(item),
+        None => T::deserialize(de),
+    }
+}
