@@ -66,10 +66,20 @@ pub trait Readable: Sized + Drop {
         None
     }
 
-    /// Whether lists have a source bring the rest of an item's head to hand, where it can, and then
-    /// call `at_hand` once more. It is false unless a type says otherwise.
-    fn is_gathered() -> bool {
-        false
+    /// Has the source bring the rest of the item's head to hand, where it can, and reads the item as
+    /// `at_hand` does. None as `at_hand` returns it, though more bytes may be at hand then.
+    ///
+    /// Lists and tuples call it where `at_hand` is None, since an item that is cut off by a few bytes
+    /// is then read at once. A type of one's own needs none: it is None unless a type says otherwise.
+    #[inline(always)]
+    fn gathered<R: Source>(de: &mut Deserializer<R>) -> Option<Self>
+        ensures read { call.TakesGathered R.source R.refusals
+            (reads (context de.old.decoder.formats R.lends)) de.old de.new result }
+        ensures taken { OnSome result (call.Advances R.source de.old de.new) }
+        ensures settings { SameSettings de.old.decoder de.new.decoder }
+    {
+        let _ = de;
+        None
     }
 }
 

@@ -13,23 +13,33 @@ use cbor_read::{Read, Source};
 // Reads the item at the front, if it is whole at hand, or if the source can bring the rest of its
 // head there. None as `at_hand` returns it, though more bytes may be at hand then.
 #[inline(always)]
-#[tactic(auto, using(cbor_read::proofs::facts::Sources::stays_same))]
 pub(crate) fn ready<T: Readable, R: Source>(de: &mut Deserializer<R>) -> Option<T>
     ensures read { call.TakesGathered R.source R.refusals
         (T.reads (context de.old.decoder.formats R.lends)) de.old de.new result }
     ensures taken { OnSome result (call.Advances R.source de.old de.new) }
     ensures settings { SameSettings de.old.decoder de.new.decoder }
 {
-    if let Some(item) = T::at_hand(de) {
-        return Some(item);
+    match T::at_hand(de) {
+        Some(item) => Some(item),
+        None => T::gathered(de),
     }
-    if !T::is_gathered() {
-        return None;
+}
+
+// Has the source bring the rest of the head at the front to hand, and reads the item if it is whole
+// there then.
+#[inline(always)]
+#[tactic(auto, using(cbor_read::proofs::facts::Sources::stays_same))]
+pub(crate) fn with_head<T: Readable, R: Source>(de: &mut Deserializer<R>) -> Option<T>
+    ensures read { call.TakesGathered R.source R.refusals
+        (T.reads (context de.old.decoder.formats R.lends)) de.old de.new result }
+    ensures taken { OnSome result (call.Advances R.source de.old de.new) }
+    ensures settings { SameSettings de.old.decoder de.new.decoder }
+{
+    if de.decoder.gather_head() {
+        T::at_hand(de)
+    } else {
+        None
     }
-    if !de.decoder.gather_head() {
-        return None;
-    }
-    T::at_hand(de)
 }
 
 // The same, and any item by `deserialize`.

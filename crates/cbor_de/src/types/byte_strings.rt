@@ -58,10 +58,6 @@ impl<const N: usize> Readable for ByteArray<N> {
     ghost wrong_forms = { never };
 
     ghost passes_over = { true };
-
-    fn is_gathered() -> bool {
-        false
-    }
 }
 
 impl<'de, R: Read<'de>, const N: usize> Deserialize<'de, R> for ByteArray<N> {

@@ -8,6 +8,7 @@ ghost use Rattle.cbor_decode_as.specs.Takes.{IsMessage};
 
 use crate::de::Deserializer;
 use crate::deserialize::{Deserialize, DeserializeOwned, Readable};
+use crate::ready::with_head;
 use cbor_decode_as::borrowed::EitherStr;
 use cbor_decode_as::character::ascii_at_hand;
 use cbor_io::error::{Error, Result};
@@ -66,8 +67,9 @@ impl Readable for char {
         ascii_at_hand(&mut de.decoder)
     }
 
-    fn is_gathered() -> bool {
-        true
+    #[inline(always)]
+    fn gathered<R: Source>(de: &mut Deserializer<R>) -> Option<char> {
+        with_head(de)
     }
 }
 

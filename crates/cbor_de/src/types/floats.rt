@@ -2,6 +2,7 @@
 
 use crate::de::Deserializer;
 use crate::deserialize::{Deserialize, DeserializeOwned, Readable};
+use crate::ready::with_head;
 use cbor_decode_as::floats::{f32_at_hand, f64_at_hand, read_f32, read_f64};
 use cbor_io::error::Result;
 use cbor_read::{Read, Source};
@@ -29,8 +30,9 @@ impl Readable for f32 {
         f32_at_hand(&mut de.decoder)
     }
 
-    fn is_gathered() -> bool {
-        true
+    #[inline(always)]
+    fn gathered<R: Source>(de: &mut Deserializer<R>) -> Option<f32> {
+        with_head(de)
     }
 }
 
@@ -68,8 +70,9 @@ impl Readable for f64 {
         f64_at_hand(&mut de.decoder)
     }
 
-    fn is_gathered() -> bool {
-        true
+    #[inline(always)]
+    fn gathered<R: Source>(de: &mut Deserializer<R>) -> Option<f64> {
+        with_head(de)
     }
 }
 

@@ -2,6 +2,7 @@
 
 use crate::de::Deserializer;
 use crate::deserialize::{Deserialize, DeserializeOwned, Readable};
+use crate::ready::with_head;
 use cbor_decode_as::integer::{
     from_zero_at_hand, read_from_zero, read_signed, read_u128, signed_at_hand,
 };
@@ -29,8 +30,9 @@ impl Readable for u8 {
         }
     }
 
-    fn is_gathered() -> bool {
-        true
+    #[inline(always)]
+    fn gathered<R: Source>(de: &mut Deserializer<R>) -> Option<u8> {
+        with_head(de)
     }
 }
 
@@ -73,8 +75,9 @@ impl Readable for u16 {
         }
     }
 
-    fn is_gathered() -> bool {
-        true
+    #[inline(always)]
+    fn gathered<R: Source>(de: &mut Deserializer<R>) -> Option<u16> {
+        with_head(de)
     }
 }
 
@@ -117,8 +120,9 @@ impl Readable for u32 {
         }
     }
 
-    fn is_gathered() -> bool {
-        true
+    #[inline(always)]
+    fn gathered<R: Source>(de: &mut Deserializer<R>) -> Option<u32> {
+        with_head(de)
     }
 }
 
@@ -161,8 +165,9 @@ impl Readable for u64 {
         }
     }
 
-    fn is_gathered() -> bool {
-        true
+    #[inline(always)]
+    fn gathered<R: Source>(de: &mut Deserializer<R>) -> Option<u64> {
+        with_head(de)
     }
 }
 
@@ -205,8 +210,9 @@ impl Readable for usize {
         }
     }
 
-    fn is_gathered() -> bool {
-        true
+    #[inline(always)]
+    fn gathered<R: Source>(de: &mut Deserializer<R>) -> Option<usize> {
+        with_head(de)
     }
 }
 
@@ -249,8 +255,9 @@ impl Readable for i8 {
         }
     }
 
-    fn is_gathered() -> bool {
-        true
+    #[inline(always)]
+    fn gathered<R: Source>(de: &mut Deserializer<R>) -> Option<i8> {
+        with_head(de)
     }
 }
 
@@ -293,8 +300,9 @@ impl Readable for i16 {
         }
     }
 
-    fn is_gathered() -> bool {
-        true
+    #[inline(always)]
+    fn gathered<R: Source>(de: &mut Deserializer<R>) -> Option<i16> {
+        with_head(de)
     }
 }
 
@@ -337,8 +345,9 @@ impl Readable for i32 {
         }
     }
 
-    fn is_gathered() -> bool {
-        true
+    #[inline(always)]
+    fn gathered<R: Source>(de: &mut Deserializer<R>) -> Option<i32> {
+        with_head(de)
     }
 }
 
@@ -381,8 +390,9 @@ impl Readable for i64 {
         }
     }
 
-    fn is_gathered() -> bool {
-        true
+    #[inline(always)]
+    fn gathered<R: Source>(de: &mut Deserializer<R>) -> Option<i64> {
+        with_head(de)
     }
 }
 
@@ -425,8 +435,9 @@ impl Readable for isize {
         }
     }
 
-    fn is_gathered() -> bool {
-        true
+    #[inline(always)]
+    fn gathered<R: Source>(de: &mut Deserializer<R>) -> Option<isize> {
+        with_head(de)
     }
 }
 

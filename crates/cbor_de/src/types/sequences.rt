@@ -116,10 +116,6 @@ impl<T: Readable, const N: usize> Readable for [T; N] {
     ghost reads = { λ c. PassesTags (AsArray (AreExactly (T.reads c) N)) };
 
     ghost wrong_forms = { T.wrong_forms };
-
-    fn is_gathered() -> bool {
-        false
-    }
 }
 
 impl<'de, R: Read<'de>, T: Deserialize<'de, R>, const N: usize> Deserialize<'de, R> for [T; N] {

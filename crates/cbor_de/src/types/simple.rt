@@ -2,6 +2,7 @@
 
 use crate::de::Deserializer;
 use crate::deserialize::{Deserialize, DeserializeOwned, Readable};
+use crate::ready::with_head;
 use cbor_decode_as::scalar::bool_at_hand;
 use cbor_io::error::Result;
 use cbor_read::{Read, Source};
@@ -25,8 +26,9 @@ impl Readable for bool {
         bool_at_hand(&mut de.decoder)
     }
 
-    fn is_gathered() -> bool {
-        true
+    #[inline(always)]
+    fn gathered<R: Source>(de: &mut Deserializer<R>) -> Option<bool> {
+        with_head(de)
     }
 }
 
