@@ -7,3 +7,4 @@ pub mod VariantTaken
 pub mod ContentTaken
 pub mod ItemFronts
 pub mod Items
+pub mod Gathered

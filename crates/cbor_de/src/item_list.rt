@@ -12,7 +12,7 @@ ghost use Rattle.cbor_de.specs.Calls as call;
 
 use crate::de::Deserializer;
 use crate::deserialize::{Deserialize, Readable};
-use crate::ready::read_ready;
+use crate::ready::read_gathered;
 use crate::sequence::invalid_length;
 use cbor_decode::Remaining;
 use cbor_decode_as::collection::{array_head, end_array, more_items};
@@ -178,7 +178,7 @@ fn next_part<'de, R: Read<'de>, T: Deserialize<'de, R>>(
     match more_items(&mut de.decoder, remaining) {
         Ok(true) => match T::at_hand(de) {
             Some(item) => Ok(item),
-            None => read_ready::<R, T>(de),
+            None => read_gathered::<R, T>(de),
         },
         Ok(false) => Err(invalid_length(de.decoder.alloc, before, expected)),
         Err(e) => Err(e),

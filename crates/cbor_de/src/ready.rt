@@ -25,26 +25,9 @@ pub(crate) fn ready<T: Readable, R: Source>(de: &mut Deserializer<R>) -> Option<
     }
 }
 
-// Has the source bring the rest of the head at the front to hand, and reads the item if it is whole
-// there then.
-#[inline(always)]
-#[tactic(auto, using(cbor_read::proofs::facts::Sources::stays_same))]
-pub(crate) fn with_head<T: Readable, R: Source>(de: &mut Deserializer<R>) -> Option<T>
-    ensures read { call.TakesGathered R.source R.refusals
-        (T.reads (context de.old.decoder.formats R.lends)) de.old de.new result }
-    ensures taken { OnSome result (call.Advances R.source de.old de.new) }
-    ensures settings { SameSettings de.old.decoder de.new.decoder }
-{
-    if de.decoder.gather_head() {
-        T::at_hand(de)
-    } else {
-        None
-    }
-}
-
-// The same, and any item by `deserialize`.
+// Reads an item that isn't whole at hand: gathered, or by `deserialize`.
 #[tactic(auto, using(crate::proofs::refusals::Forms::plain))]
-pub(crate) fn read_ready<'de, R: Read<'de>, T: Deserialize<'de, R>>(
+pub(crate) fn read_gathered<'de, R: Read<'de>, T: Deserialize<'de, R>>(
     de: &mut Deserializer<R>,
 ) -> Result<T>
     ensures read { call.TakesItem R.source R.refusals
@@ -52,7 +35,7 @@ pub(crate) fn read_ready<'de, R: Read<'de>, T: Deserialize<'de, R>>(
     ensures form { IfErr result (call.MayReport R.source T.wrong_forms de.old) }
     ensures settings { SameSettings de.old.decoder de.new.decoder }
 {
-    match ready::<T, R>(de) {
+    match T::gathered(de) {
         Some(item) => Ok(item),
         None => T::deserialize(de),
     }

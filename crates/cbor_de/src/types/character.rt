@@ -8,7 +8,6 @@ ghost use Rattle.cbor_decode_as.specs.Takes.{IsMessage};
 
 use crate::de::Deserializer;
 use crate::deserialize::{Deserialize, DeserializeOwned, Readable};
-use crate::ready::with_head;
 use cbor_decode_as::borrowed::EitherStr;
 use cbor_decode_as::character::ascii_at_hand;
 use cbor_io::error::{Error, Result};
@@ -68,8 +67,13 @@ impl Readable for char {
     }
 
     #[inline(always)]
+    #[tactic(auto, using(crate::proofs::taken::Gathered::then_at_hand))]
     fn gathered<R: Source>(de: &mut Deserializer<R>) -> Option<char> {
-        with_head(de)
+        if de.decoder.gather_head() {
+            Self::at_hand(de)
+        } else {
+            None
+        }
     }
 }
 

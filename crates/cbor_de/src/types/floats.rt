@@ -2,7 +2,6 @@
 
 use crate::de::Deserializer;
 use crate::deserialize::{Deserialize, DeserializeOwned, Readable};
-use crate::ready::with_head;
 use cbor_decode_as::floats::{f32_at_hand, f64_at_hand, read_f32, read_f64};
 use cbor_io::error::Result;
 use cbor_read::{Read, Source};
@@ -31,8 +30,13 @@ impl Readable for f32 {
     }
 
     #[inline(always)]
+    #[tactic(auto, using(crate::proofs::taken::Gathered::then_at_hand))]
     fn gathered<R: Source>(de: &mut Deserializer<R>) -> Option<f32> {
-        with_head(de)
+        if de.decoder.gather_head() {
+            Self::at_hand(de)
+        } else {
+            None
+        }
     }
 }
 
@@ -71,8 +75,13 @@ impl Readable for f64 {
     }
 
     #[inline(always)]
+    #[tactic(auto, using(crate::proofs::taken::Gathered::then_at_hand))]
     fn gathered<R: Source>(de: &mut Deserializer<R>) -> Option<f64> {
-        with_head(de)
+        if de.decoder.gather_head() {
+            Self::at_hand(de)
+        } else {
+            None
+        }
     }
 }
 

@@ -2,7 +2,6 @@
 
 use crate::de::Deserializer;
 use crate::deserialize::{Deserialize, DeserializeOwned, Readable};
-use crate::ready::with_head;
 use cbor_decode_as::integer::{
     from_zero_at_hand, read_from_zero, read_signed, read_u128, signed_at_hand,
 };
@@ -31,8 +30,13 @@ impl Readable for u8 {
     }
 
     #[inline(always)]
+    #[tactic(auto, using(crate::proofs::taken::Gathered::then_at_hand))]
     fn gathered<R: Source>(de: &mut Deserializer<R>) -> Option<u8> {
-        with_head(de)
+        if de.decoder.gather_head() {
+            Self::at_hand(de)
+        } else {
+            None
+        }
     }
 }
 
@@ -76,8 +80,13 @@ impl Readable for u16 {
     }
 
     #[inline(always)]
+    #[tactic(auto, using(crate::proofs::taken::Gathered::then_at_hand))]
     fn gathered<R: Source>(de: &mut Deserializer<R>) -> Option<u16> {
-        with_head(de)
+        if de.decoder.gather_head() {
+            Self::at_hand(de)
+        } else {
+            None
+        }
     }
 }
 
@@ -121,8 +130,13 @@ impl Readable for u32 {
     }
 
     #[inline(always)]
+    #[tactic(auto, using(crate::proofs::taken::Gathered::then_at_hand))]
     fn gathered<R: Source>(de: &mut Deserializer<R>) -> Option<u32> {
-        with_head(de)
+        if de.decoder.gather_head() {
+            Self::at_hand(de)
+        } else {
+            None
+        }
     }
 }
 
@@ -166,8 +180,13 @@ impl Readable for u64 {
     }
 
     #[inline(always)]
+    #[tactic(auto, using(crate::proofs::taken::Gathered::then_at_hand))]
     fn gathered<R: Source>(de: &mut Deserializer<R>) -> Option<u64> {
-        with_head(de)
+        if de.decoder.gather_head() {
+            Self::at_hand(de)
+        } else {
+            None
+        }
     }
 }
 
@@ -211,8 +230,13 @@ impl Readable for usize {
     }
 
     #[inline(always)]
+    #[tactic(auto, using(crate::proofs::taken::Gathered::then_at_hand))]
     fn gathered<R: Source>(de: &mut Deserializer<R>) -> Option<usize> {
-        with_head(de)
+        if de.decoder.gather_head() {
+            Self::at_hand(de)
+        } else {
+            None
+        }
     }
 }
 
@@ -256,8 +280,13 @@ impl Readable for i8 {
     }
 
     #[inline(always)]
+    #[tactic(auto, using(crate::proofs::taken::Gathered::then_at_hand))]
     fn gathered<R: Source>(de: &mut Deserializer<R>) -> Option<i8> {
-        with_head(de)
+        if de.decoder.gather_head() {
+            Self::at_hand(de)
+        } else {
+            None
+        }
     }
 }
 
@@ -301,8 +330,13 @@ impl Readable for i16 {
     }
 
     #[inline(always)]
+    #[tactic(auto, using(crate::proofs::taken::Gathered::then_at_hand))]
     fn gathered<R: Source>(de: &mut Deserializer<R>) -> Option<i16> {
-        with_head(de)
+        if de.decoder.gather_head() {
+            Self::at_hand(de)
+        } else {
+            None
+        }
     }
 }
 
@@ -346,8 +380,13 @@ impl Readable for i32 {
     }
 
     #[inline(always)]
+    #[tactic(auto, using(crate::proofs::taken::Gathered::then_at_hand))]
     fn gathered<R: Source>(de: &mut Deserializer<R>) -> Option<i32> {
-        with_head(de)
+        if de.decoder.gather_head() {
+            Self::at_hand(de)
+        } else {
+            None
+        }
     }
 }
 
@@ -391,8 +430,13 @@ impl Readable for i64 {
     }
 
     #[inline(always)]
+    #[tactic(auto, using(crate::proofs::taken::Gathered::then_at_hand))]
     fn gathered<R: Source>(de: &mut Deserializer<R>) -> Option<i64> {
-        with_head(de)
+        if de.decoder.gather_head() {
+            Self::at_hand(de)
+        } else {
+            None
+        }
     }
 }
 
@@ -436,8 +480,13 @@ impl Readable for isize {
     }
 
     #[inline(always)]
+    #[tactic(auto, using(crate::proofs::taken::Gathered::then_at_hand))]
     fn gathered<R: Source>(de: &mut Deserializer<R>) -> Option<isize> {
-        with_head(de)
+        if de.decoder.gather_head() {
+            Self::at_hand(de)
+        } else {
+            None
+        }
     }
 }
 

@@ -2,7 +2,6 @@
 
 use crate::de::Deserializer;
 use crate::deserialize::{Deserialize, DeserializeOwned, Readable};
-use crate::ready::with_head;
 use cbor_decode_as::scalar::bool_at_hand;
 use cbor_io::error::Result;
 use cbor_read::{Read, Source};
@@ -27,8 +26,13 @@ impl Readable for bool {
     }
 
     #[inline(always)]
+    #[tactic(auto, using(crate::proofs::taken::Gathered::then_at_hand))]
     fn gathered<R: Source>(de: &mut Deserializer<R>) -> Option<bool> {
-        with_head(de)
+        if de.decoder.gather_head() {
+            Self::at_hand(de)
+        } else {
+            None
+        }
     }
 }
 

@@ -21,26 +21,26 @@ returns-in-None-clause-read g c =
     let old = c.args.de.now.decoder in
     let mid = c.more_items.new.decoder in
     let same = c.at_hand.new.de.decoder in
-    let t = g.R.Source.source c.read_ready.new.de.decoder.source in
+    let t = g.R.Source.source c.read_gathered.new.de.decoder.source in
     let reads = λ (f : Formats). g.T.Readable.reads (context f g.R.Source.lends) in
-    let read = read_here mid.formats same.formats c.in-None.ensures.settings.formats (g.R.Source.source mid.source) (g.R.Source.source same.source) c.in-None.ensures.read g.R.Source.refusals reads mid.levels same.levels c.in-None.ensures.settings.levels t c.read_ready.result c.read_ready.ensures.read in
+    let read = read_here mid.formats same.formats c.in-None.ensures.settings.formats (g.R.Source.source mid.source) (g.R.Source.source same.source) c.in-None.ensures.read g.R.Source.refusals reads mid.levels same.levels c.in-None.ensures.settings.levels t c.read_gathered.result c.read_gathered.ensures.read in
     part_answer reads old.formats mid.formats old.levels mid.levels c.more_items.ensures.settings.formats c.more_items.ensures.settings.levels
     (g.R.Source.source old.source) (g.R.Source.source mid.source) t c.args.remaining.now c.more_items.new.remaining c.in-Ok-true.field-0 c.in-Ok-true.field-0-test g.R.Source.refusals
-    c.in-Ok-true.ensures.read c.read_ready.result read
+    c.in-Ok-true.ensures.read c.read_gathered.result read
 
 pub returns-in-None-clause-form : goal.returns-in-None-clause-form
 returns-in-None-clause-form g c =
     let mid = c.more_items.new.decoder in
     let same = c.at_hand.new.de.decoder in
-    let form = forms_here mid.formats same.formats c.in-None.ensures.settings.formats (g.R.Source.source mid.source) (g.R.Source.source same.source) c.in-None.ensures.read g.T.Readable.wrong_forms c.read_ready.result c.read_ready.ensures.form in
-    later_err g.T.Readable.wrong_forms c.args.de.now.decoder.formats mid.formats _ _ c.read_ready.result c.more_items.ensures.settings.formats c.in-Ok-true.ensures.read.took form
+    let form = forms_here mid.formats same.formats c.in-None.ensures.settings.formats (g.R.Source.source mid.source) (g.R.Source.source same.source) c.in-None.ensures.read g.T.Readable.wrong_forms c.read_gathered.result c.read_gathered.ensures.form in
+    later_err g.T.Readable.wrong_forms c.args.de.now.decoder.formats mid.formats _ _ c.read_gathered.result c.more_items.ensures.settings.formats c.in-Ok-true.ensures.read.took form
 
 -- ---- too few items
 
 pub returns-in-None-clause-short : goal.returns-in-None-clause-short
 returns-in-None-clause-short g c =
     let old = c.args.de.now.decoder in
-    short_later g.R.Source.refusals (length_text c.args.before c.args.expected) c.args.remaining.now (g.R.Source.source old.source) (g.R.Source.source c.more_items.new.decoder.source) c.more_items.new.remaining c.in-Ok-true.field-0 c.read_ready.result c.in-Ok-true.field-0-test c.in-Ok-true.ensures.read
+    short_later g.R.Source.refusals (length_text c.args.before c.args.expected) c.args.remaining.now (g.R.Source.source old.source) (g.R.Source.source c.more_items.new.decoder.source) c.more_items.new.remaining c.in-Ok-true.field-0 c.read_gathered.result c.in-Ok-true.field-0-test c.in-Ok-true.ensures.read
 
 pub returns-in-Ok-false-clause-short : goal.returns-in-Ok-false-clause-short
 returns-in-Ok-false-clause-short g c =
