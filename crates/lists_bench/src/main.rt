@@ -42,7 +42,8 @@ fn answer_input(rt: &HostRuntime) -> Result<Option<usize>> {
     let alloc = rt.alloc();
     match input.as_slice() {
         [task @ 0..=1, times, kind, item @ ..] => of_slice(alloc, *task == 1, *times, *kind, item),
-        [task @ 2..=6, times, kind, item @ ..] => of_device(alloc, *task, *times, *kind, item),
+        [task @ 2..=3, times, kind, item @ ..] => of_reader(alloc, *task, *times, *kind, item),
+        [task @ 4..=6, times, kind, item @ ..] => of_block(alloc, *task, *times, *kind, item),
         [task @ 7..=9, times, kind, item @ ..] => of_rules(alloc, *task, *times, *kind, item),
         _ => Ok(None),
     }
@@ -109,39 +110,56 @@ fn packed_turns<'a, T: Deserialize<'a, SliceRead<'a>> + Serialize>(
     Ok(Some(written))
 }
 
-// From a buffered reader (2), from one that gives seven bytes a call (3), from a slice and to a
-// buffered writer (4), from a reader that is read ahead (5), or from a slice and to a sink that
-// holds a block (6).
-fn of_device(alloc: Global, task: u8, times: u8, kind: u8, item: &[u8]) -> Result<Option<usize>> {
+// From a buffered reader (2), or from one that gives seven bytes a call (3).
+fn of_reader(alloc: Global, task: u8, times: u8, kind: u8, item: &[u8]) -> Result<Option<usize>> {
     match kind {
-        b'b' => device_turns::<bool>(alloc, task, times, item),
-        b'i' => device_turns::<i64>(alloc, task, times, item),
-        b'u' => device_turns::<u32>(alloc, task, times, item),
-        b'S' => device_turns::<String>(alloc, task, times, item),
-        b'f' => device_turns::<f64>(alloc, task, times, item),
-        b't' => device_turns::<(u32, bool, String)>(alloc, task, times, item),
+        b'b' => reader_turns::<bool>(alloc, task, times, item),
+        b'i' => reader_turns::<i64>(alloc, task, times, item),
+        b'u' => reader_turns::<u32>(alloc, task, times, item),
+        b'S' => reader_turns::<String>(alloc, task, times, item),
+        b'f' => reader_turns::<f64>(alloc, task, times, item),
+        b't' => reader_turns::<(u32, bool, String)>(alloc, task, times, item),
         _ => Ok(None),
     }
 }
 
-fn device_turns<'a, T>(alloc: Global, task: u8, times: u8, item: &'a [u8]) -> Result<Option<usize>>
+fn reader_turns<'a, T>(alloc: Global, task: u8, times: u8, item: &'a [u8]) -> Result<Option<usize>>
 where
-    T: Serialize
-        + DeserializeOwned
-        + Deserialize<'a, SliceRead<'a>>
+    T: DeserializeOwned
         + Deserialize<'a, BufferedRead<BufReader<&'a [u8]>, InlineBlock>>
-        + Deserialize<'a, BufferedRead<Sevens<'a>, InlineBlock>>
-        + Deserialize<'a, BufferedRead<&'a [u8]>>,
+        + Deserialize<'a, BufferedRead<Sevens<'a>, InlineBlock>>,
+{
+    'turns: for _ in 0..times {
+        if task == 2 {
+            let _: Vec<T> = from_reader(alloc, BufReader::new(alloc, item)?)?;
+        } else {
+            let _: Vec<T> = from_reader(alloc, Sevens::new(item))?;
+        }
+    }
+    Ok(Some(0))
+}
+
+// From a slice and to a buffered writer (4), from a reader that is read ahead (5), or from a slice
+// and to a sink that holds a block (6).
+fn of_block(alloc: Global, task: u8, times: u8, kind: u8, item: &[u8]) -> Result<Option<usize>> {
+    match kind {
+        b'b' => block_turns::<bool>(alloc, task, times, item),
+        b'i' => block_turns::<i64>(alloc, task, times, item),
+        b'u' => block_turns::<u32>(alloc, task, times, item),
+        b'S' => block_turns::<String>(alloc, task, times, item),
+        b'f' => block_turns::<f64>(alloc, task, times, item),
+        b't' => block_turns::<(u32, bool, String)>(alloc, task, times, item),
+        _ => Ok(None),
+    }
+}
+
+fn block_turns<'a, T>(alloc: Global, task: u8, times: u8, item: &'a [u8]) -> Result<Option<usize>>
+where
+    T: Serialize + Deserialize<'a, SliceRead<'a>> + Deserialize<'a, BufferedRead<&'a [u8]>>,
 {
     let mut written = 0;
     'turns: for _ in 0..times {
         match task {
-            2 => {
-                let _: Vec<T> = from_reader(alloc, BufReader::new(alloc, item)?)?;
-            }
-            3 => {
-                let _: Vec<T> = from_reader(alloc, Sevens::new(item))?;
-            }
             4 => written = through_writer::<T>(alloc, item)?,
             5 => read_ahead::<T>(alloc, item)?,
             _ => written = in_blocks::<T>(alloc, item)?,
