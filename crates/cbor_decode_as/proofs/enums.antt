@@ -7,3 +7,6 @@ pub mod VariantPairs
 pub mod VariantMaps
 pub mod VariantForms
 pub mod VariantsAtHand
+pub mod VariantFaults
+pub mod VariantMemory
+pub mod ContentFaults

@@ -9,3 +9,5 @@ pub mod PassedTags
 pub mod FirstByte
 pub mod ItemsBehind
 pub mod BeginningFaults
+pub mod AnyItems
+pub mod AnyFormats

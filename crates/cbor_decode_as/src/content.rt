@@ -10,6 +10,8 @@ ghost use Rattle.cbor_io.specs.Error.{code_of, HasNoOffset};
 ghost use Rattle.cbor_decode.specs.Gives.{ReportsNoForm, ReportsNoKey, ReportsNoMemory};
 ghost use Rattle.cbor_io.specs.declared.error.ErrorCode.TheVariants.{ArrayTooLong, OutOfMemory};
 ghost use Rattle.cbor_decode_as.specs.Cases.{FormAlone, HasCase, NoItemHere, unit_cases};
+ghost use Rattle.cbor_decode_as.specs.Contents.{ContentFault, MemoryForNull};
+ghost use Rattle.cbor_decode_as.specs.Contents.{MemoryForParts, PartsFault};
 ghost use Rattle.cbor_decode_as.specs.Enums.{IsNothing, IsPart};
 ghost use Rattle.cbor_decode_as.specs.Takes.{ReportsFault, formats_of};
 ghost use Rattle.cbor_decode_as.specs.BeginsEnum.{TakesPartsHead};
@@ -90,6 +92,10 @@ pub fn parts<R: Source>(decoder: &mut Decoder<R>, form: Form) -> Result<Remainin
     ensures opened { TakesPartsHead R.refusals decoder.old.levels form
         (R.source decoder.old.source) (R.source decoder.new.source)
         decoder.new.levels result }
+    ensures fault { IfErr result (PartsFault R.refusals decoder.old.levels form
+        (R.source decoder.old.source)) }
+    ensures memory { IfErr result (MemoryForParts decoder.old.levels form
+        (R.source decoder.old.source)) }
     ensures alone { IfErr result (ReportsAlone (alone_text (codes "tuple")) form) }
     ensures no_form { IfErr result (λ e. ReportsNoForm (code_of e)) }
     ensures inside { IfOk result (λ r. IsEntered form decoder.old.levels
@@ -115,6 +121,10 @@ fn only_null<R: Source>(decoder: &mut Decoder<R>, mut remaining: Remaining) -> R
         (R.source decoder.old.source) (R.source decoder.new.source) result }
     ensures cases { IfErr result (λ e. HasCase (R.source decoder.old.source) e
         (unit_cases (Array remaining))) }
+    ensures fault { IfErr result (ContentFault R.refusals decoder.old.levels (Array remaining)
+        (R.source decoder.old.source)) }
+    ensures memory { IfErr result (MemoryForNull (formats_of decoder.old.formats)
+        decoder.old.levels (Array remaining) (R.source decoder.old.source)) }
     ensures code { IfErr result (λ e. FormAlone ArrayTooLong (code_of e)) }
     ensures settings { SameSettings decoder.old decoder.new }
 {
@@ -136,6 +146,10 @@ pub fn no_part<R: Source>(decoder: &mut Decoder<R>, form: Form) -> Result<()>
         (R.source decoder.old.source) (R.source decoder.new.source) result }
     ensures cases { IfErr result (λ e. HasCase (R.source decoder.old.source) e
         (unit_cases form)) }
+    ensures fault { IfErr result (ContentFault R.refusals decoder.old.levels form
+        (R.source decoder.old.source)) }
+    ensures memory { IfErr result (MemoryForNull (formats_of decoder.old.formats)
+        decoder.old.levels form (R.source decoder.old.source)) }
     ensures code { IfErr result (λ e. FormAlone ArrayTooLong (code_of e)) }
     ensures settings { SameSettings decoder.old decoder.new }
 {

@@ -14,6 +14,8 @@ ghost use Rattle.cbor_decode_as.specs.Identifiers.{texts};
 ghost use Rattle.cbor_decode_as.specs.Strings.{IsAskedString};
 ghost use Rattle.cbor_decode_as.specs.Takes.{ItemFault, formats_of};
 ghost use Rattle.cbor_decode_as.specs.BeginsEnum.{TakesVariantHead, TakesForm, TakesFormOf};
+ghost use Rattle.cbor_decode_as.specs.BeginsEnum.{FaultOfForm, MemoryForForm, MemoryForFormOf};
+ghost use Rattle.cbor_decode_as.specs.BeginsEnum.{MemoryForIdentifier, MemoryForVariant};
 ghost use Rattle.cbor_decode_as.specs.Variants.{HasNoTag, HasShape, IsAlone, IsInside};
 ghost use Rattle.cbor_decode_as.specs.Variants.{TakesShape, TakesShaped, TakesVariant};
 ghost use Rattle.cbor_decode_as.specs.Variants.{pair_head_at, reads_shape, shape_of};
@@ -74,6 +76,8 @@ fn enum_shape<R: Source>(decoder: &mut Decoder<R>) -> Result<Shape>
         (R.source decoder.old.source) (R.source decoder.new.source) result }
     ensures cases { IfErr result (λ e. HasCase (R.source decoder.old.source) e
         (form_cases (formats_of decoder.old.formats))) }
+    ensures fault { IfErr result (ItemFault R.refusals decoder.old.levels
+        (R.source decoder.old.source)) }
     ensures code { IfErr result (λ e. IsEnumCode (code_of e)) }
     ensures memory { IfErr result (λ e. code_of e ≢ OutOfMemory) }
     ensures settings { SameSettings decoder.old decoder.new }
@@ -157,6 +161,11 @@ pub fn variant_head<'de, R: Read<'de>>(
         (R.source decoder.old.source) (R.source decoder.new.source)
         decoder.new.levels result }
     ensures taken { OnOk result (step.Advances R.source decoder.old decoder.new) }
+    ensures fault { IfErr result (ItemFault R.refusals decoder.old.levels
+        (R.source decoder.old.source)) }
+    ensures memory { IfErr result (MemoryForVariant
+        (IsAskedString (asks_for R.refusals R.lends)) (formats_of decoder.old.formats)
+        (texts names.now) decoder.old.levels (R.source decoder.old.source)) }
     ensures cases { IfErr result (λ e. HasCase (R.source decoder.old.source) e
         (enum_cases (formats_of decoder.old.formats)
         decoder.old.levels)) }
@@ -192,6 +201,11 @@ fn tagged_variant<'de, R: Read<'de>>(
         (R.source decoder.old.source) (R.source decoder.new.source)
         decoder.new.levels result }
     ensures taken { OnOk result (step.Advances R.source decoder.old decoder.new) }
+    ensures fault { IfErr result (ItemFault R.refusals decoder.old.levels
+        (R.source decoder.old.source)) }
+    ensures memory { IfErr result (MemoryForVariant
+        (IsAskedString (asks_for R.refusals R.lends)) (formats_of decoder.old.formats)
+        (texts names.now) decoder.old.levels (R.source decoder.old.source)) }
     ensures cases { IfErr result (λ e. HasCase (R.source decoder.old.source) e
         (enum_cases (formats_of decoder.old.formats)
         decoder.old.levels)) }
@@ -222,6 +236,11 @@ fn untagged_variant<'de, R: Read<'de>>(
         (R.source decoder.old.source) (R.source decoder.new.source)
         decoder.new.levels result }
     ensures taken { OnOk result (step.Advances R.source decoder.old decoder.new) }
+    ensures fault { IfErr result (ItemFault R.refusals decoder.old.levels
+        (R.source decoder.old.source)) }
+    ensures memory { IfErr result (MemoryForForm
+        (IsAskedString (asks_for R.refusals R.lends)) (formats_of decoder.old.formats)
+        (texts names.now) decoder.old.levels (R.source decoder.old.source)) }
     ensures cases { IfErr result (λ e. HasCase (R.source decoder.old.source) e
         (untagged_cases (formats_of decoder.old.formats)
         decoder.old.levels)) }
@@ -271,6 +290,11 @@ fn name_alone<'de, R: Read<'de>>(decoder: &mut Decoder<R>, names: &[&str]) -> Re
         (R.source decoder.old.source) (R.source decoder.new.source)
         decoder.new.levels result }
     ensures taken { OnOk result (step.Advances R.source decoder.old decoder.new) }
+    ensures fault { IfErr result (FaultOfForm shape.Alone R.refusals decoder.old.levels
+        (R.source decoder.old.source)) }
+    ensures memory { IfErr result (MemoryForFormOf shape.Alone
+        (IsAskedString (asks_for R.refusals R.lends)) (formats_of decoder.old.formats)
+        (texts names.now) decoder.old.levels (R.source decoder.old.source)) }
     ensures no_form { IfErr result (λ e. ReportsNoForm (code_of e)) }
     ensures below { IfOk result (λ v. v.0 < length names.now) }
     ensures inside { IfOk result (λ v. IsInside v.1 decoder.new.levels
@@ -297,6 +321,11 @@ fn array_variant<'de, R: Read<'de>>(
         (R.source decoder.old.source) (R.source decoder.new.source)
         decoder.new.levels result }
     ensures taken { OnOk result (step.Advances R.source decoder.old decoder.new) }
+    ensures fault { IfErr result (FaultOfForm shape.Array R.refusals decoder.old.levels
+        (R.source decoder.old.source)) }
+    ensures memory { IfErr result (MemoryForFormOf shape.Array
+        (IsAskedString (asks_for R.refusals R.lends)) (formats_of decoder.old.formats)
+        (texts names.now) decoder.old.levels (R.source decoder.old.source)) }
     ensures cases { IfErr result (λ e. HasCase (R.source decoder.old.source) e
         (untagged_cases (formats_of decoder.old.formats)
         decoder.old.levels)) }
@@ -325,6 +354,11 @@ fn map_variant<'de, R: Read<'de>>(decoder: &mut Decoder<R>, names: &[&str]) -> R
         (R.source decoder.old.source) (R.source decoder.new.source)
         decoder.new.levels result }
     ensures taken { OnOk result (step.Advances R.source decoder.old decoder.new) }
+    ensures fault { IfErr result (FaultOfForm shape.Map R.refusals decoder.old.levels
+        (R.source decoder.old.source)) }
+    ensures memory { IfErr result (MemoryForFormOf shape.Map
+        (IsAskedString (asks_for R.refusals R.lends)) (formats_of decoder.old.formats)
+        (texts names.now) decoder.old.levels (R.source decoder.old.source)) }
     ensures cases { IfErr result (λ e. HasCase (R.source decoder.old.source) e
         (untagged_cases (formats_of decoder.old.formats)
         decoder.old.levels)) }
@@ -349,8 +383,9 @@ fn variant_name<'de, R: Read<'de>>(decoder: &mut Decoder<R>, names: &[&str]) -> 
     ensures taken { OnOk result (step.Advances R.source decoder.old decoder.new) }
     ensures fault { IfErr result (ItemFault R.refusals decoder.old.levels
         (R.source decoder.old.source)) }
-    ensures memory { IfErr result (call.MemoryFor R.source
-        (IsAskedString (asks_for R.refusals R.lends)) (IsName (texts names.now)) decoder.old) }
+    ensures memory { IfErr result (MemoryForIdentifier
+        (IsAskedString (asks_for R.refusals R.lends)) (formats_of decoder.old.formats)
+        (texts names.now) decoder.old.levels (R.source decoder.old.source)) }
     ensures no_form { IfErr result (λ e. ReportsNoForm (code_of e)) }
     ensures below { IfOk result (λ i. i < length names.now) }
     ensures settings { SameSettings decoder.old decoder.new }

@@ -29,7 +29,7 @@ use Rattle.cbor_decode.proofs.facts.Heads.{item_opened}
 abbrev chosen : (x y u z m : Bool) → Shape
 chosen x y u z m = cond x shape.Alone (cond y shape.Array (cond u shape.Unassigned (cond z shape.Array (cond m shape.Map shape.Alone))))
 
-array_byte : (b : ℕ) → shape_of b ≡ shape.Array → (128 ≤ b) × (b < 160)
+pub array_byte : (b : ℕ) → shape_of b ≡ shape.Array → (128 ≤ b) × (b < 160)
 array_byte b is = by (ltb b 0x80) (ltb b 0x9c) (ltb b 0x9f) (eqb b 0x9f) (eqb b 0xa1) refl refl refl is
   where
     by : (x y u z m : Bool) → ltb b 0x80 ≡ x → ltb b 0x9c ≡ y → eqb b 0x9f ≡ z → chosen x y u z m ≡ shape.Array → (128 ≤ b) × (b < 160)
@@ -67,7 +67,7 @@ alone_byte b is = by (ltb b 0x80) (ltb b 0x9c) (ltb b 0x9f) (eqb b 0x9f) (eqb b 
         ((λ from to. other (omega (arith, least, to))), eqb-false b 0xa1 one)
 
 -- no item begins so
-unassigned_byte : (b : ℕ) → shape_of b ≡ shape.Unassigned → (0x9c ≤ b) × (b < 0x9f)
+pub unassigned_byte : (b : ℕ) → shape_of b ≡ shape.Unassigned → (0x9c ≤ b) × (b < 0x9f)
 unassigned_byte b is = by (ltb b 0x80) (ltb b 0x9c) (ltb b 0x9f) (eqb b 0x9f) (eqb b 0xa1) refl refl is
   where
     by : (x y u z m : Bool) → ltb b 0x9c ≡ y → ltb b 0x9f ≡ u → chosen x y u z m ≡ shape.Unassigned → (0x9c ≤ b) × (b < 0x9f)
@@ -179,7 +179,7 @@ alone_head b bs byte is none =
 
 -- ---- arrays
 
-array_kind_at : (b : ℕ) (bs rest : List ℕ) (w : HeadWidth) (h : Head) → b / 32 ≡ 4 → head_at b bs ≡ Ok ((w, h), rest) → head_kind h ≡ kind.array
+pub array_kind_at : (b : ℕ) (bs rest : List ℕ) (w : HeadWidth) (h : Head) → b / 32 ≡ 4 → head_at b bs ≡ Ok ((w, h), rest) → head_kind h ≡ kind.array
 unfolding head_at head_of
 array_kind_at b bs rest w h four is = by (eqb (b % 32) 31) (number_behind (b % 32) bs) (rw four at is)
   where
@@ -226,7 +226,7 @@ unassigned_first f l levels b bs rest r begins is =
     let h = headed f l levels b bs r rest is in
     unassigned_head b bs h.mid h.width h.head (omega (arith, byte)) (omega (arith, byte)) (λ last. omega (arith, byte, last)) h.at
 
-map_head_at : (bs : List ℕ) → head_at 0xa1 bs ≡ Ok ((no_bytes, head.Map (Counted 1)), bs)
+pub map_head_at : (bs : List ℕ) → head_at 0xa1 bs ≡ Ok ((no_bytes, head.Map (Counted 1)), bs)
 unfolding head_at head_of number_behind
 map_head_at bs = refl
 

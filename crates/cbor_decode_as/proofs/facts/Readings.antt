@@ -7,3 +7,5 @@ pub use Rattle.cbor_decode_as.proofs.refused.Refusing.{refuses_memory, refuses_t
 pub use Rattle.cbor_decode_as.proofs.refused.Gathered.{read_gathered}
 -- where memory ran out in what follows a step
 pub use Rattle.cbor_decode_as.proofs.refused.Refusing.{OutOfMemoryAt, memory_by, memory_then}
+-- an item that is read in some formats is read in all, and what stops it but the rule of keys stops it there
+pub use Rattle.cbor_decode_as.proofs.heads.AnyFormats.{any_read, any_stops}

@@ -14,3 +14,6 @@ pub use Rattle.cbor_decode_as.proofs.texts.MemoryAsked.{error_only}
 pub use Rattle.cbor_decode_as.proofs.heads.PassedOver.{stands_err}
 -- what a type's refusal reports, by what is said of the type
 pub use Rattle.cbor_decode_as.proofs.heads.PassedOver.{always, item_only, item_passes, item_total, passes_reported, reports_both, reports_map, total_reported}
+-- the fault of the item at the front, if the error reports one
+pub use Rattle.cbor_decode_as.proofs.enums.ContentFaults.{formats_if_any}
+pub use Rattle.cbor_decode_as.proofs.refused.Faults.{whole_if_any}

@@ -7,7 +7,6 @@ use Rattle.cbor_io.specs.Error.{code_of, offset_of}
 use Rattle.cbor_io.specs.ReadError.{error_code}
 use Rattle.cbor_io.specs.declared.error.Error.{Error}
 use Rattle.cbor_io.specs.declared.error.ErrorCode.{ErrorCode}
-use Rattle.cbor_io.specs.declared.error.ErrorCode.TheVariants as code
 use Rattle.cbor_io.specs.declared.read_error.ReadError.{ReadError}
 use Rattle.cbor_io.specs.declared.read_error.ReadErrorCode.{ReadErrorCode}
 use Rattle.cbor_io.specs.declared.read_error.ReadErrorCode.TheVariants as reading
@@ -46,7 +45,7 @@ unfolding map_at
 map_deep left r l bs none = rw none refl
 
 -- the error of a refusal
-kept_code : (kept : ReadError) (r : Refused) (e : Error) (k : ReadErrorCode) (at : ℕ) → r ≡ refused.Kept → IsAt k at kept → IsErrorOf kept r e → (code_of e ≡ error_code k) × (offset_of e ≡ at)
+pub kept_code : (kept : ReadError) (r : Refused) (e : Error) (k : ReadErrorCode) (at : ℕ) → r ≡ refused.Kept → IsAt k at kept → IsErrorOf kept r e → (code_of e ≡ error_code k) × (offset_of e ≡ at)
 kept_code kept refused.OutOfMemory e k at keeps is made = absurd cc
 kept_code kept refused.Kept e k at keeps is made = (made.0 ∙ ap error_code is.0, made.1 ∙ is.1)
 

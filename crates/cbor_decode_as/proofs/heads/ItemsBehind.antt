@@ -1,11 +1,11 @@
 -- The item at the front, by the head that is found within its tags.
-use Rattle.std.proofs.Common.{◌≡◌, ℕ, zero, suc, List, Option, Ok, Err, refl, sym, ap, subst, ◌∙◌}
+use Rattle.std.proofs.Common.{◌≡◌, ◌≢◌, ℕ, zero, suc, List, Ok, Err, refl, sym, ap, subst, ◌∙◌}
 use Rattle.cbor_model.specs.Formats.{Formats}
 use Rattle.cbor_model.specs.Head.{HeadWidth}
 use Rattle.cbor_model.specs.Raw as raw
 use Rattle.cbor_model.specs.Raw.{Raw, Raws, RawPairs}
 use Rattle.cbor_model.specs.Readable.{untagged}
-use Rattle.cbor_model.specs.Reader.{Reads, Reading, ◌>>=◌, inside, item_at, tag_at}
+use Rattle.cbor_model.specs.Reader.{Fault, Reads, Reading, ◌>>=◌, inside, item_at, tag_at}
 use Rattle.cbor_model.proofs.facts.Reader.{ok_is}
 use Rattle.cbor_decode.specs.Gives.{Limits}
 use Rattle.cbor_decode.specs.Heads.{opening_at, behind_head}
@@ -14,7 +14,7 @@ use Rattle.cbor_decode.specs.declared.head.Head.TheVariants as head
 use Rattle.cbor_decode.proofs.facts.Heads.{item_opened}
 use Rattle.cbor_decode_as.specs.Kinds.{head_kind, kind_of}
 use Rattle.cbor_decode_as.specs.Kinds as kind
-use Rattle.cbor_decode_as.specs.TaggedHeads.{opened_at, opened_by}
+use Rattle.cbor_decode_as.specs.TaggedHeads.{HasHead, opened_at, opened_by}
 use Rattle.cbor_decode_as.specs.Takes.{raws}
 use Rattle.cbor_decode_as.proofs.heads.OfKind.{kinds}
 use Rattle.cbor_decode_as.proofs.heads.Openings.{opened_below, opened_is}
@@ -83,3 +83,46 @@ module _ (f : Formats) (l : Limits) where
       let of : kind_of b.item ≡ head_kind h = kinds f l (inside m left) b.width mid h b.item rest b.is in
       let bare : untagged b.item ≡ b.item = within_none b.item (λ tag. b.inner (sym of ∙ tag)) in
       ap kind_of (b.same ∙ bare) ∙ of
+
+-- ---- an item that is read has a head
+
+module _ (f : Formats) (l : Limits) where
+  -- what stops its head stops it
+  stops_by : (levels : ℕ) (e : Fault) (o : Reads (HeadWidth × Head)) → ((w : HeadWidth) (n : ℕ) (mid : List ℕ) → opened_by levels (opened_below levels) (head.Tag n) mid ≡ Err e → tag_at (m f l) (inside (m f l) levels) w n mid ≡ Err e)
+      → (o >>= (λ h. opened_by levels (opened_below levels) h.0.1 h.1)) ≡ Err e → (o >>= (λ h. behind_head (m f l) (inside (m f l) levels) h.0.0 h.0.1 h.1)) ≡ Err e
+  stops_by levels e (Ok o) tag stops = by_head o.0.0 o.0.1 o.1 stops
+    where
+      by_head : (w : HeadWidth) (h : Head) (mid : List ℕ) → opened_by levels (opened_below levels) h mid ≡ Err e → behind_head (m f l) (inside (m f l) levels) w h mid ≡ Err e
+      by_head w (head.Tag n) mid stops = tag w n mid stops
+      by_head w h mid stops = absurd cc
+  stops_by levels e (Err g) tag stops = same_fault g stops
+    where
+      same_fault : {A B : Type 0} (g : Fault) → ◌≡◌ {A = Reads A} (Err g) (Err e) → ◌≡◌ {A = Reads B} (Err g) (Err e)
+      same_fault g is = cc
+
+  begun_stops : (levels : ℕ) (bs : List ℕ) (e : Fault) → ((w : HeadWidth) (n : ℕ) (mid : List ℕ) → opened_by levels (opened_below levels) (head.Tag n) mid ≡ Err e → tag_at (m f l) (inside (m f l) levels) w n mid ≡ Err e) → opened_at levels bs ≡ Err e → item_at (m f l) levels bs ≡ Err e
+  begun_stops levels bs e tag stops = item_opened (m f l) levels bs ∙ stops_by levels e (opening_at bs) tag (sym (opened_is levels bs) ∙ stops)
+
+  unopened : (levels : ℕ) (bs : List ℕ) (e : Fault) → opened_at levels bs ≡ Err e → item_at (m f l) levels bs ≡ Err e
+  unfolding tag_at
+  unopened zero bs e = begun_stops zero bs e (λ w n mid stops. none_inside stops)
+    where
+      none_inside : {A B : Type 0} {g : Fault} → ◌≡◌ {A = Reads A} (Err g) (Err e) → ◌≡◌ {A = Reads B} (Err g) (Err e)
+      none_inside is = cc
+  unopened (suc left) bs e = begun_stops (suc left) bs e (λ w n mid stops. rw (unopened left mid e stops) refl)
+
+  pub head_stands : (levels : ℕ) (bs rest : List ℕ) (r : Raw) → item_at (m f l) levels bs ≡ Ok (r, rest) → HasHead (λ h. h ≢ head.Break) levels bs
+  head_stands levels bs rest r is = by (opened_at levels bs) refl
+    where
+      not_both : (e : Fault) → ◌≡◌ {A = Reads Raw} (Err e) (Ok (r, rest)) → ⊥
+      not_both e both = absurd cc
+
+      no_break : (left : ℕ) (h : Head) (mid : List ℕ) (b : Behind f l left h mid r rest) → h ≢ head.Break
+      no_break left h mid b broken = not_item (sym (ap (λ (h : Head). behind_head (m f l) (inside (m f l) left) b.width h mid) broken) ∙ b.is)
+        where
+          not_item : {e : Fault} → ◌≡◌ {A = Reads Raw} (Err e) (Ok (b.item, rest)) → ⊥
+          not_item both = absurd cc
+
+      by : (o : Reads (ℕ × Head)) → opened_at levels bs ≡ o → HasHead (λ h. h ≢ head.Break) levels bs
+      by (Ok o) opened = record { left = o.0.0; head = o.0.1; rest = o.1; is = opened; holds = no_break o.0.0 o.0.1 o.1 (item_behind f l levels o.0.0 o.0.1 bs o.1 rest r opened is) }
+      by (Err e) opened = absurd (not_both e (sym (unopened levels bs e opened) ∙ is))

@@ -28,7 +28,7 @@ use Rattle.cbor_decode_as.proofs.numbers.Scalars.{excused_or, reported_why}
 
 -- ---- after the head of an item within its tags
 
-passed_made : {A B : Type 0} (read : Reads A) (make : A → B) → passed (read >>= (λ x. Ok (make x.0, x.1))) ≡ passed read
+pub passed_made : {A B : Type 0} (read : Reads A) (make : A → B) → passed (read >>= (λ x. Ok (make x.0, x.1))) ≡ passed read
 passed_made (Ok x) make = refl
 passed_made (Err f) make = refl
 

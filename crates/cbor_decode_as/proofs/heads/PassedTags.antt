@@ -40,7 +40,7 @@ module _ {Item Items Pairs : Type 0} (m : Reading Item Items Pairs) where
       err_is : (x y : Fault) → ◌≡◌ {A = Reads (Option ℕ)} (Err x) (Err y) → x ≡ y
       err_is x y h = cc
 
-  tag_stops : (levels : ℕ) (bs : List ℕ) (e : Fault) → tag_head_at levels bs ≡ Err e → item_at m levels bs ≡ Err e
+  pub tag_stops : (levels : ℕ) (bs : List ℕ) (e : Fault) → tag_head_at levels bs ≡ Err e → item_at m levels bs ≡ Err e
   tag_stops levels [] e is = absurd cc
   tag_stops levels (b ∷ mid) e is = by (begins_tag b) refl is
     where
@@ -89,14 +89,14 @@ module _ (f : Formats) (levels left n : ℕ) (one : levels ≡ left + 1) where
 -- ---- all tags, whatever follows them
 
 -- what is read one level further in
-abbrev passing : ℕ → List ℕ → Reads ℕ
+abbrev pub passing : ℕ → List ℕ → Reads ℕ
 passing zero bs = Err (before too_deep bs)
 passing (suc left) bs = passed_at left bs
 
 abbrev after : ℕ → Reads (Option ℕ) → Reads ℕ
 after levels read = read >>= (λ o. passed_by levels (passing levels) o.0 o.1)
 
-passed_is : (levels : ℕ) (bs : List ℕ) → passed_at levels bs ≡ passed_from levels (passing levels) bs
+pub passed_is : (levels : ℕ) (bs : List ℕ) → passed_at levels bs ≡ passed_from levels (passing levels) bs
 unfolding passed_at
 passed_is zero bs = refl
 passed_is (suc left) bs = refl

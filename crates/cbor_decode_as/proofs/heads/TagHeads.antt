@@ -7,7 +7,7 @@ use Rattle.cbor_model.specs.Refusal.{too_deep}
 use Rattle.cbor_model.specs.Reader.{Fault, Reads, Reading, ◌>>=◌, byte_at, number_behind, width_of, item_at, item_by, inside, after_first, content_at, tag_at}
 use Rattle.cbor_model.proofs.facts.Reader.{ok_is}
 use Rattle.cbor_read.specs.Source.{Input}
-use Rattle.cbor_decode.specs.Gives.{Limits, Step}
+use Rattle.cbor_decode.specs.Gives.{Step}
 use Rattle.cbor_decode.proofs.facts.Steps.{step_map}
 use Rattle.cbor_decode_as.specs.Tags.{begins_tag, tag_first_at, entered_at, tag_behind, tag_head_at, TagIs}
 use Rattle.cbor_decode_as.specs.Takes.{raws}
@@ -82,11 +82,11 @@ entered (suc left) k (Ok x) rest is =
     ap₂ (λ (a : ℕ) (b : List ℕ). Ok (a, b)) (some_is x.0 k (ap (λ (q : Option ℕ × List ℕ). q.0) both)) (ap (λ (q : Option ℕ × List ℕ). q.1) both)
 entered levels k (Err e) rest is = absurd cc
 
-module _ (f : Formats) (l : Limits) (levels n : ℕ) where
+module _ {Item Items Pairs : Type 0} (m : Reading Item Items Pairs) (levels n : ℕ) where
   abbrev IsTag : List ℕ → List ℕ → Type 0
-  IsTag bs rest = (w : HeadWidth) × (item_at (raws f l) levels bs ≡ tag_at (raws f l) (inside (raws f l) levels) w n rest)
+  IsTag bs rest = (w : HeadWidth) × (item_at m levels bs ≡ tag_at m (inside m levels) w n rest)
 
-  tag_item : (bs rest : List ℕ) → tag_head_at levels bs ≡ Ok (Some n, rest) → IsTag bs rest
+  pub tag_item : (bs rest : List ℕ) → tag_head_at levels bs ≡ Ok (Some n, rest) → IsTag bs rest
   tag_item [] rest is = none_some n [] rest is
   tag_item (b ∷ mid) rest is = by (begins_tag b) refl is
     where
@@ -94,11 +94,11 @@ module _ (f : Formats) (l : Limits) (levels n : ℕ) where
       by true begins h =
           let byte = tag_byte b begins in
           let number = entered levels n (number_behind (b % 32) mid) rest h in
-          (width_of (b % 32), item_first (raws f l) levels b mid ∙ tag_content (raws f l) (inside (raws f l) levels) b n mid rest byte.0 byte.1 number)
+          (width_of (b % 32), item_first m levels b mid ∙ tag_content m (inside m levels) b n mid rest byte.0 byte.1 number)
       by false begins h = none_some n (b ∷ mid) rest h
 
 -- the item of which the tag's head was taken
 pub tag_is : (f : Formats) (levels : ℕ) (s t : Input) (o : Option ℕ) → Step s t (λ l bs rest. tag_head_at levels bs ≡ Ok (o, rest)) → IfSome o (λ n. TagIs f levels n s t)
 tag_is f levels s t None step = tt
 tag_is f levels s t (Some n) step =
-    step_map s t (λ l bs rest. tag_head_at levels bs ≡ Ok (Some n, rest)) (λ l bs rest. IsTag f l levels n bs rest) (λ l bs rest is. tag_item f l levels n bs rest is) step
+    step_map s t (λ l bs rest. tag_head_at levels bs ≡ Ok (Some n, rest)) (λ l bs rest. IsTag (raws f l) levels n bs rest) (λ l bs rest is. tag_item (raws f l) levels n bs rest is) step

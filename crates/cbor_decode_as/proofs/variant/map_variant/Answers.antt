@@ -6,6 +6,11 @@ use Rattle.cbor_decode_as.specs.Identifiers.{texts}
 use Rattle.cbor_decode_as.specs.Takes.{formats_of, TakesItem}
 use Rattle.cbor_decode_as.proofs.enums.VariantPairs.{map_taken, map_not_named, map_head_refused}
 use Rattle.cbor_decode_as.proofs.enums.VariantForms.{pair_refused, key_refused, map_begun}
+use Rattle.cbor_read.specs.Source.{asks_for}
+use Rattle.cbor_decode_as.specs.BeginsEnum.{MemoryForIdentifier}
+use Rattle.cbor_decode_as.specs.Strings.{IsAskedString}
+use Rattle.cbor_decode_as.proofs.enums.VariantFaults.{pair_fault, pair_key_fault}
+use Rattle.cbor_decode_as.proofs.enums.VariantMemory.{key_memory, pair_memory}
 use Rattle.cbor_decode_as.proofs.variant.map_variant.Goals as goal
 
 pub returns-in_err-index-clause-read : goal.returns-in_err-index-clause-read
@@ -67,3 +72,34 @@ pub returns-in-Err-clause-opened : goal.returns-in-Err-clause-opened
 returns-in-Err-clause-opened g c =
     let old = c.args.decoder.now in
     rw c.error.ensures.source (pair_refused (formats_of old.formats) (texts c.args.names.now) old.levels (g.R.Source.source old.source) g.R.Source.refusals c.pair_head.new.decoder.refusal c.in-Err.refused c.error.result c.error.ensures.reports c.in-Err.ensures.read)
+
+-- ---- the fault, and memory
+
+pub returns-in_err-index-clause-fault : goal.returns-in_err-index-clause-fault
+returns-in_err-index-clause-fault g c =
+    let passed = err_from_is_err_and c.from_residual.result c.from_residual.ensures.1 in
+    let old = c.args.decoder.now in
+    let mid = c.pair_head.new.decoder in
+    rw (passed.1, passed.2) (pair_key_fault g.R.Source.refusals old.levels (g.R.Source.source old.source) c.in_err-index.field-0.0 (formats_of old.formats) (g.R.Source.source mid.source) mid.levels c.in-Ok.ensures.inside c.in-Ok.ensures.read c.in_err-index.ensures.fault)
+
+pub returns-in-Err-clause-fault : goal.returns-in-Err-clause-fault
+returns-in-Err-clause-fault g c =
+    let old = c.args.decoder.now in
+    pair_fault g.R.Source.refusals old.levels (g.R.Source.source old.source) c.error.result (formats_of old.formats) c.pair_head.new.decoder.refusal c.in-Err.refused c.error.ensures.reports c.in-Err.ensures.read
+
+pub returns-in_err-index-clause-memory : goal.returns-in_err-index-clause-memory
+returns-in_err-index-clause-memory g c =
+    let passed = err_from_is_err_and c.from_residual.result c.from_residual.ensures.1 in
+    let old = c.args.decoder.now in
+    let mid = c.pair_head.new.decoder in
+    let a = g.R.Source.source mid.source in
+    let e = c.in_err-index.field-0.0 in
+    let names = texts c.args.names.now in
+    let asks = IsAskedString (asks_for g.R.Source.refusals g.R.Source.lends) in
+    let here = subst (λ (f : Formats). MemoryForIdentifier asks f names mid.levels a e) (ap formats_of c.in-Ok.ensures.formats) c.in_err-index.ensures.memory in
+    rw (passed.1, passed.2) (key_memory asks (formats_of old.formats) names old.levels (g.R.Source.source old.source) e a mid.levels c.in-Ok.ensures.inside c.in-Ok.ensures.read here)
+
+pub returns-in-Err-clause-memory : goal.returns-in-Err-clause-memory
+returns-in-Err-clause-memory g c =
+    let old = c.args.decoder.now in
+    pair_memory (IsAskedString (asks_for g.R.Source.refusals g.R.Source.lends)) (formats_of old.formats) (texts c.args.names.now) old.levels (g.R.Source.source old.source) c.error.result c.pair_head.new.decoder.refusal c.in-Err.refused c.error.ensures.reports c.in-Err.ensures.memory

@@ -6,6 +6,13 @@ use Rattle.cbor_decode_as.specs.Variants.{TakesShaped, HasNoTag}
 use Rattle.cbor_decode_as.proofs.enums.VariantShapes.{tags_then}
 use Rattle.cbor_decode_as.specs.BeginsEnum.{TakesForm}
 use Rattle.cbor_decode_as.proofs.enums.VariantForms.{tags_refused, variant_then}
+use Rattle.std.proofs.lemmas.Result.{IfErr-weaker}
+use Rattle.cbor_read.specs.Source.{asks_for}
+use Rattle.cbor_decode_as.specs.Strings.{IsAskedString}
+use Rattle.cbor_decode_as.specs.BeginsEnum.{MemoryForForm, MemoryForVariant}
+use Rattle.cbor_decode_as.specs.Takes.{ItemFault}
+use Rattle.cbor_decode_as.proofs.enums.VariantFaults.{tagged_fault, tags_fault}
+use Rattle.cbor_decode_as.proofs.enums.VariantMemory.{tagged_memory, tags_memory}
 use Rattle.cbor_decode_as.proofs.variant.tagged_variant.Goals as goal
 
 pub returns-in-Ok-clause-read : goal.returns-in-Ok-clause-read
@@ -37,3 +44,37 @@ returns-in-Err-clause-opened g c =
     let old = c.args.decoder.now in
     let s = g.R.Source.source old.source in
     rw c.error.ensures.source (tags_refused g.R.Source.refusals (formats_of old.formats) (texts c.args.names.now) old.levels s s c.pass_tags.new.decoder.refusal c.in-Err.refused c.error.result c.error.ensures.reports c.in-Err.ensures.passed)
+
+-- ---- the fault, and memory
+
+pub returns-in-Ok-clause-fault : goal.returns-in-Ok-clause-fault
+returns-in-Ok-clause-fault g c =
+    let old = c.args.decoder.now in
+    let mid = c.pass_tags.new.decoder in
+    let s = g.R.Source.source old.source in
+    let a = g.R.Source.source mid.source in
+    IfErr-weaker c.untagged_variant.result (ItemFault g.R.Source.refusals mid.levels a) (ItemFault g.R.Source.refusals old.levels s)
+    (λ e h. tagged_fault g.R.Source.refusals old.levels s e a mid.levels c.in-Ok.ensures.passed h) c.untagged_variant.ensures.fault
+
+pub returns-in-Err-clause-fault : goal.returns-in-Err-clause-fault
+returns-in-Err-clause-fault g c =
+    let old = c.args.decoder.now in
+    tags_fault g.R.Source.refusals old.levels (g.R.Source.source old.source) c.error.result c.pass_tags.new.decoder.refusal c.in-Err.refused c.error.ensures.reports c.in-Err.ensures.passed
+
+pub returns-in-Ok-clause-memory : goal.returns-in-Ok-clause-memory
+returns-in-Ok-clause-memory g c =
+    let old = c.args.decoder.now in
+    let mid = c.pass_tags.new.decoder in
+    let s = g.R.Source.source old.source in
+    let a = g.R.Source.source mid.source in
+    let f = formats_of old.formats in
+    let names = texts c.args.names.now in
+    let asks = IsAskedString (asks_for g.R.Source.refusals g.R.Source.lends) in
+    let formats = ap formats_of c.in-Ok.ensures.formats in
+    IfErr-weaker c.untagged_variant.result (MemoryForForm asks (formats_of mid.formats) names mid.levels a) (MemoryForVariant asks f names old.levels s)
+    (λ e h. tagged_memory asks f names old.levels s e a mid.levels c.in-Ok.ensures.passed (subst (λ (f : Formats). MemoryForForm asks f names mid.levels a e) formats h)) c.untagged_variant.ensures.memory
+
+pub returns-in-Err-clause-memory : goal.returns-in-Err-clause-memory
+returns-in-Err-clause-memory g c =
+    let old = c.args.decoder.now in
+    tags_memory (IsAskedString (asks_for g.R.Source.refusals g.R.Source.lends)) (formats_of old.formats) (texts c.args.names.now) old.levels (g.R.Source.source old.source) c.error.result c.pass_tags.new.decoder.refusal c.in-Err.refused c.error.ensures.reports c.in-Err.ensures.memory

@@ -11,6 +11,13 @@ use Rattle.cbor_decode_as.specs.declared.variant.Shape.TheVariants as shape
 use Rattle.cbor_decode_as.proofs.enums.VariantShapes.{shaped_then, no_shape, unassigned_shape}
 use Rattle.cbor_decode_as.specs.BeginsEnum.{TakesFormOf}
 use Rattle.cbor_decode_as.proofs.enums.VariantForms.{form_refused, form_then, unassigned_form}
+use Rattle.std.proofs.lemmas.Result.{IfErr-weaker}
+use Rattle.cbor_read.specs.Source.{asks_for}
+use Rattle.cbor_decode_as.specs.Strings.{IsAskedString}
+use Rattle.cbor_decode_as.specs.BeginsEnum.{FaultOfForm, MemoryForForm, MemoryForFormOf}
+use Rattle.cbor_decode_as.specs.Takes.{ItemFault}
+use Rattle.cbor_decode_as.proofs.enums.VariantFaults.{shaped_fault, unassigned_fault}
+use Rattle.cbor_decode_as.proofs.enums.VariantMemory.{shaped_memory, unasked_memory, unassigned_memory}
 use Rattle.cbor_decode_as.proofs.variant.untagged_variant.Goals as goal
 
 pub returns-in_err-enum_shape-clause-read : goal.returns-in_err-enum_shape-clause-read
@@ -137,3 +144,104 @@ returns-in-Unassigned-clause-opened g c =
     let took = some_then _ _ _ c.unassigned_byte-refused.ensures.read.took (took_same (ap g.R.Source.source c.error.ensures.source)) in
     let shaped = subst (λ (x : Shape). Step s a (λ l bs rest. IsShaped x bs rest)) c.in-Unassigned.is c.in_ok-enum_shape.ensures.read.0 in
     form_then g.R.Source.refusals f names old.levels s a shape.Unassigned shaped t new.levels (Err c.error.result) (unassigned_form g.R.Source.refusals f names old.levels a t new.levels c.error.result took)
+
+-- ---- the fault
+
+pub returns-in_err-enum_shape-clause-fault : goal.returns-in_err-enum_shape-clause-fault
+returns-in_err-enum_shape-clause-fault g c =
+    let passed = err_from_is_err_and c.from_residual.result c.from_residual.ensures.1 in
+    rw (passed.1, passed.2) c.in_err-enum_shape.ensures.fault
+
+pub returns-in-Array-clause-fault : goal.returns-in-Array-clause-fault
+returns-in-Array-clause-fault g c =
+    let old = c.args.decoder.now in
+    let mid = c.enum_shape.new.decoder in
+    let s = g.R.Source.source old.source in
+    let a = g.R.Source.source mid.source in
+    let shaped = subst (λ (x : Shape). Step s a (λ l bs rest. IsShaped x bs rest)) c.in-Array.is c.in_ok-enum_shape.ensures.read.0 in
+    IfErr-weaker c.array_variant.result (FaultOfForm shape.Array g.R.Source.refusals mid.levels a) (ItemFault g.R.Source.refusals old.levels s)
+    (λ e h. shaped_fault g.R.Source.refusals old.levels s e shape.Array a shaped (subst (λ (n : ℕ). FaultOfForm shape.Array g.R.Source.refusals n a e) c.in_ok-enum_shape.ensures.settings.levels h)) c.array_variant.ensures.fault
+
+pub returns-in-Map-clause-fault : goal.returns-in-Map-clause-fault
+returns-in-Map-clause-fault g c =
+    let old = c.args.decoder.now in
+    let mid = c.enum_shape.new.decoder in
+    let s = g.R.Source.source old.source in
+    let a = g.R.Source.source mid.source in
+    let shaped = subst (λ (x : Shape). Step s a (λ l bs rest. IsShaped x bs rest)) c.in-Map.is c.in_ok-enum_shape.ensures.read.0 in
+    IfErr-weaker c.map_variant.result (FaultOfForm shape.Map g.R.Source.refusals mid.levels a) (ItemFault g.R.Source.refusals old.levels s)
+    (λ e h. shaped_fault g.R.Source.refusals old.levels s e shape.Map a shaped (subst (λ (n : ℕ). FaultOfForm shape.Map g.R.Source.refusals n a e) c.in_ok-enum_shape.ensures.settings.levels h)) c.map_variant.ensures.fault
+
+pub returns-in-Alone-clause-fault : goal.returns-in-Alone-clause-fault
+returns-in-Alone-clause-fault g c =
+    let old = c.args.decoder.now in
+    let mid = c.enum_shape.new.decoder in
+    let s = g.R.Source.source old.source in
+    let a = g.R.Source.source mid.source in
+    let shaped = subst (λ (x : Shape). Step s a (λ l bs rest. IsShaped x bs rest)) c.in-Alone.is c.in_ok-enum_shape.ensures.read.0 in
+    IfErr-weaker c.name_alone.result (FaultOfForm shape.Alone g.R.Source.refusals mid.levels a) (ItemFault g.R.Source.refusals old.levels s)
+    (λ e h. shaped_fault g.R.Source.refusals old.levels s e shape.Alone a shaped (subst (λ (n : ℕ). FaultOfForm shape.Alone g.R.Source.refusals n a e) c.in_ok-enum_shape.ensures.settings.levels h)) c.name_alone.ensures.fault
+
+pub returns-in-Unassigned-clause-fault : goal.returns-in-Unassigned-clause-fault
+returns-in-Unassigned-clause-fault g c =
+    let old = c.args.decoder.now in
+    let mid = c.enum_shape.new.decoder in
+    let s = g.R.Source.source old.source in
+    let a = g.R.Source.source mid.source in
+    let shaped = subst (λ (x : Shape). Step s a (λ l bs rest. IsShaped x bs rest)) c.in-Unassigned.is c.in_ok-enum_shape.ensures.read.0 in
+    shaped_fault g.R.Source.refusals old.levels s c.error.result shape.Unassigned a shaped (unassigned_fault g.R.Source.refusals old.levels a c.error.result c.unassigned_byte-refused.new.decoder.refusal c.unassigned_byte-refused.result c.error.ensures.reports c.unassigned_byte-refused.ensures.read)
+
+-- ---- memory
+
+pub returns-in_err-enum_shape-clause-memory : goal.returns-in_err-enum_shape-clause-memory
+returns-in_err-enum_shape-clause-memory g c =
+    let passed = err_from_is_err_and c.from_residual.result c.from_residual.ensures.1 in
+    let old = c.args.decoder.now in
+    rw (passed.1, passed.2) (unasked_memory (IsAskedString (asks_for g.R.Source.refusals g.R.Source.lends)) (formats_of old.formats) (texts c.args.names.now) old.levels (g.R.Source.source old.source) c.in_err-enum_shape.field-0.0 c.in_err-enum_shape.ensures.memory)
+
+pub returns-in-Array-clause-memory : goal.returns-in-Array-clause-memory
+returns-in-Array-clause-memory g c =
+    let old = c.args.decoder.now in
+    let mid = c.enum_shape.new.decoder in
+    let s = g.R.Source.source old.source in
+    let a = g.R.Source.source mid.source in
+    let f = formats_of old.formats in
+    let names = texts c.args.names.now in
+    let asks = IsAskedString (asks_for g.R.Source.refusals g.R.Source.lends) in
+    let shaped = subst (λ (x : Shape). Step s a (λ l bs rest. IsShaped x bs rest)) c.in-Array.is c.in_ok-enum_shape.ensures.read.0 in
+    let formats = ap formats_of c.in_ok-enum_shape.ensures.settings.formats in
+    IfErr-weaker c.array_variant.result (MemoryForFormOf shape.Array asks (formats_of mid.formats) names mid.levels a) (MemoryForForm asks f names old.levels s)
+    (λ e h. shaped_memory asks f names old.levels s e shape.Array a shaped (subst (λ (n : ℕ). MemoryForFormOf shape.Array asks f names n a e) c.in_ok-enum_shape.ensures.settings.levels (subst (λ (f : Formats). MemoryForFormOf shape.Array asks f names mid.levels a e) formats h))) c.array_variant.ensures.memory
+
+pub returns-in-Map-clause-memory : goal.returns-in-Map-clause-memory
+returns-in-Map-clause-memory g c =
+    let old = c.args.decoder.now in
+    let mid = c.enum_shape.new.decoder in
+    let s = g.R.Source.source old.source in
+    let a = g.R.Source.source mid.source in
+    let f = formats_of old.formats in
+    let names = texts c.args.names.now in
+    let asks = IsAskedString (asks_for g.R.Source.refusals g.R.Source.lends) in
+    let shaped = subst (λ (x : Shape). Step s a (λ l bs rest. IsShaped x bs rest)) c.in-Map.is c.in_ok-enum_shape.ensures.read.0 in
+    let formats = ap formats_of c.in_ok-enum_shape.ensures.settings.formats in
+    IfErr-weaker c.map_variant.result (MemoryForFormOf shape.Map asks (formats_of mid.formats) names mid.levels a) (MemoryForForm asks f names old.levels s)
+    (λ e h. shaped_memory asks f names old.levels s e shape.Map a shaped (subst (λ (n : ℕ). MemoryForFormOf shape.Map asks f names n a e) c.in_ok-enum_shape.ensures.settings.levels (subst (λ (f : Formats). MemoryForFormOf shape.Map asks f names mid.levels a e) formats h))) c.map_variant.ensures.memory
+
+pub returns-in-Alone-clause-memory : goal.returns-in-Alone-clause-memory
+returns-in-Alone-clause-memory g c =
+    let old = c.args.decoder.now in
+    let mid = c.enum_shape.new.decoder in
+    let s = g.R.Source.source old.source in
+    let a = g.R.Source.source mid.source in
+    let f = formats_of old.formats in
+    let names = texts c.args.names.now in
+    let asks = IsAskedString (asks_for g.R.Source.refusals g.R.Source.lends) in
+    let shaped = subst (λ (x : Shape). Step s a (λ l bs rest. IsShaped x bs rest)) c.in-Alone.is c.in_ok-enum_shape.ensures.read.0 in
+    let formats = ap formats_of c.in_ok-enum_shape.ensures.settings.formats in
+    IfErr-weaker c.name_alone.result (MemoryForFormOf shape.Alone asks (formats_of mid.formats) names mid.levels a) (MemoryForForm asks f names old.levels s)
+    (λ e h. shaped_memory asks f names old.levels s e shape.Alone a shaped (subst (λ (n : ℕ). MemoryForFormOf shape.Alone asks f names n a e) c.in_ok-enum_shape.ensures.settings.levels (subst (λ (f : Formats). MemoryForFormOf shape.Alone asks f names mid.levels a e) formats h))) c.name_alone.ensures.memory
+
+pub returns-in-Unassigned-clause-memory : goal.returns-in-Unassigned-clause-memory
+returns-in-Unassigned-clause-memory g c =
+    let old = c.args.decoder.now in
+    unassigned_memory (IsAskedString (asks_for g.R.Source.refusals g.R.Source.lends)) (formats_of old.formats) (texts c.args.names.now) old.levels (g.R.Source.source old.source) c.error.result c.unassigned_byte-refused.new.decoder.refusal c.unassigned_byte-refused.result c.error.ensures.reports c.unassigned_byte-refused.ensures.memory
