@@ -331,6 +331,7 @@ impl<W: Write> Serializer<W> {
     }
 
     // Appends a name, or the number in its place.
+    #[inline(always)]
     fn write_key(&mut self, by_number: bool, index: u32, name: &str) -> Result<()>
         ensures { Serialized W.written W.refuses W.references W.capacity self.old
             (item (key_document by_number index name.now)) self.new result }
@@ -352,6 +353,7 @@ impl<W: Write> Serializer<W> {
     }
 
     // Begins the map of a variant's name, or of its number, and what it holds.
+    #[inline(always)]
     fn write_map_key(&mut self, by_number: bool, index: u32, name: &str) -> Result<()>
         ensures { Serialized W.written W.refuses W.references W.capacity self.old
             (in_turn (map_head (Some 1)) (item (key_document by_number index name.now)))
@@ -362,6 +364,7 @@ impl<W: Write> Serializer<W> {
     }
 
     // Appends what precedes the part of a newtype variant.
+    #[inline(always)]
     pub(crate) fn write_newtype_head(&mut self, index: u32, name: &str) -> Result<()>
         ensures { Serialized W.written W.refuses W.references W.capacity self.old
             (newtype_head index name.now) self.new result }

@@ -127,6 +127,7 @@ impl<W: Write> Serializer<W> {
     }
 
     // Appends a field that is written: what identifies it, and what it holds.
+    #[inline(always)]
     pub(crate) fn field_step<A: SerializeField>(
         &mut self,
         number: u32,
