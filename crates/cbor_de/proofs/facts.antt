@@ -3,5 +3,7 @@ pub mod Readings
 pub mod Values
 pub mod Structs
 pub mod Enums
+pub mod Faults
 pub mod Forms
 pub mod Streams
+pub mod MapFaults

@@ -4,3 +4,5 @@ pub mod ItemLists
 pub mod WholeMaps
 pub mod Enums
 pub mod AtHand
+pub mod ArrayFaults
+pub mod EnumFaults

@@ -8,3 +8,4 @@ pub mod UnreadMemory
 pub mod Forms
 pub mod Left
 pub mod AccessFaults
+pub mod OwnFaults

@@ -2,6 +2,7 @@
 -- before and after, and of what remains; `Accesses`, `MapAccesses` and `Variants` of `cbor_decode_as`
 -- say the same of inputs.
 use Rattle.std.specs.Prelude.{◌≡◌, ◌<◌, ◌≤◌, ℕ, Bool, List, Option, MatchOption, Result}
+use Rattle.cbor_model.specs.Formats.{Formats}
 use Rattle.cbor_model.specs.Raw.{Raw}
 use Rattle.cbor_model.specs.Reader.{item_at}
 use Rattle.cbor_io.specs.declared.error.Error.{Error}
@@ -18,10 +19,12 @@ use Rattle.cbor_decode_as.specs.Begins as begins
 use Rattle.cbor_decode_as.specs.BeginsEnum as begins_enum
 use Rattle.cbor_decode_as.specs.MapAccesses as maps
 use Rattle.cbor_decode_as.specs.Takes as input
-use Rattle.cbor_decode_as.specs.Takes.{WhateverTaken, formats_of, raws}
+use Rattle.cbor_decode_as.specs.Takes.{WhateverTaken, WhereTotal, formats_of, raws}
+use Rattle.cbor_decode_as.specs.Contents as contents
 use Rattle.cbor_decode_as.specs.Enums.{Content}
 use Rattle.cbor_decode_as.specs.Variants as variants
 use Rattle.cbor_decode_as.specs.declared.variant.Form.{Form}
+use Rattle.cbor_de.specs.ItemLists as lists
 use Rattle.cbor_de.specs.declared.de.Deserializer.{Deserializer}
 
 -- ---- what opens one
@@ -107,6 +110,18 @@ RefusesVariantHead seen refusals names old e =
     let s = seen old.decoder.source in
     WhateverTaken s (begins_enum.RefusesVariantHead refusals (formats_of old.decoder.formats) names old.decoder.levels s) e
 
+-- A refusal reports the fault of the item at the front, if it reports one.
+abbrev pub VariantFault : {R : Type 0} → (R → Input) → (ReadErrorCode → Bool) → Deserializer R
+    → Error → Type 0
+VariantFault seen refusals old e =
+    input.ItemFault refusals old.decoder.levels (seen old.decoder.source) e
+
+-- Where memory ran out, it was asked for the identifier, or for a message on what stands there.
+abbrev pub MemoryForVariant : {R : Type 0} → (R → Input) → (Raw → Type 0) → List (List ℕ)
+    → Deserializer R → Error → Type 0
+MemoryForVariant seen asks names old e =
+    begins_enum.MemoryForVariant asks (formats_of old.decoder.formats) names old.decoder.levels (seen old.decoder.source) e
+
 -- what stands before the parts of a variant of several was taken
 abbrev pub OpensParts : {R : Type 0} → (R → Input) → Form → Deserializer R → Deserializer R
     → Remaining → Type 0
@@ -131,6 +146,17 @@ RefusesPartsHead seen refusals form old e =
     let s = seen old.decoder.source in
     WhateverTaken s (begins_enum.RefusesPartsHead refusals old.decoder.levels form s) e
 
+-- The refusal is one of what stands before the parts.
+abbrev pub PartsFault : {R : Type 0} → (R → Input) → (ReadErrorCode → Bool) → Form → Deserializer R
+    → Error → Type 0
+PartsFault seen refusals form old e =
+    contents.PartsFault refusals old.decoder.levels form (seen old.decoder.source) e
+
+-- Where memory ran out, it was asked for a message.
+abbrev pub MemoryForParts : {R : Type 0} → (R → Input) → Form → Deserializer R → Error → Type 0
+MemoryForParts seen form old e =
+    contents.MemoryForParts old.decoder.levels form (seen old.decoder.source) e
+
 -- ---- what a call on one takes
 
 abbrev pub TakesNext : {R A : Type 0} → (R → Input) → (ReadErrorCode → Bool) → (Raw → A → Type 0)
@@ -150,6 +176,13 @@ abbrev pub NextFault : {R : Type 0} → (R → Input) → (ReadErrorCode → Boo
     → Deserializer R → Error → Type 0
 NextFault seen refusals passes_over total remaining old e =
     arrays.NextFault refusals (input.ReportsItem passes_over total refusals (formats_of old.decoder.formats) old.decoder.levels) remaining (seen old.decoder.source) e
+
+-- Where a type's refusals report the faults of the bytes: the fault of the items that remain and of the end, if
+-- the error reports one.
+abbrev pub ItemsFault : {R : Type 0} → (R → Input) → (ReadErrorCode → Bool) → Bool → Remaining
+    → Deserializer R → Error → Type 0
+ItemsFault seen refusals reports_faults remaining old e =
+    WhereTotal reports_faults (lists.ItemsFault refusals old.decoder.levels remaining (seen old.decoder.source) e)
 
 abbrev pub TakesPart : {R A : Type 0} → (R → Input) → (ReadErrorCode → Bool) → (Raw → A → Type 0)
     → Remaining → Remaining → Deserializer R → Deserializer R → Result A Error → Type 0
@@ -180,10 +213,52 @@ abbrev pub NameFault : {R : Type 0} → (R → Input) → (ReadErrorCode → Boo
 NameFault seen refusals remaining old e =
     maps.KeyFault refusals (input.ItemFault refusals old.decoder.levels) (formats_of old.decoder.formats) remaining (seen old.decoder.source) e
 
+-- The same, of the key that comes where its type's refusals report the faults of the bytes.
+abbrev pub OwnKeyFault : {R : Type 0} → (R → Input) → (ReadErrorCode → Bool) → Bool → Remaining
+    → Deserializer R → Error → Type 0
+OwnKeyFault seen refusals reports_faults remaining old e =
+    maps.KeyFault refusals (λ s e. WhereTotal reports_faults (input.ItemFault refusals old.decoder.levels s e)) (formats_of old.decoder.formats) remaining (seen old.decoder.source) e
+
 abbrev pub TakesContent : {R A : Type 0} → (R → Input) → (ReadErrorCode → Bool)
     → (Content → A → Type 0) → Form → Deserializer R → Deserializer R → Result A Error → Type 0
 TakesContent seen refusals reads form old new result =
     variants.TakesContent refusals (formats_of old.decoder.formats) reads old.decoder.levels form (seen old.decoder.source) (seen new.decoder.source) result
+
+-- ---- the content of a variant, refused
+
+-- A refusal reports the fault of the content, if it reports one.
+abbrev pub ContentFault : {R : Type 0} → (R → Input) → (ReadErrorCode → Bool) → Form
+    → Deserializer R → Error → Type 0
+ContentFault seen refusals form old e =
+    contents.ContentFault refusals old.decoder.levels form (seen old.decoder.source) e
+
+-- Where memory ran out, it was asked for a message on what stands in the place of null.
+abbrev pub MemoryForNull : {R : Type 0} → (R → Input) → Form → Deserializer R → Error → Type 0
+MemoryForNull seen form old e =
+    contents.MemoryForNull (formats_of old.decoder.formats) old.decoder.levels form (seen old.decoder.source) e
+
+-- what a type's refusal reports of the item at the front, by what is said of the type
+abbrev pub TypeFault : Bool → Bool → Bool → (ReadErrorCode → Bool) → Formats → ℕ → Input → Error
+    → Type 0
+TypeFault passes_over total reports_faults refusals f levels s e =
+    input.ReportsItem passes_over total refusals f levels s e
+    × WhereTotal reports_faults (input.ItemFault refusals levels s e)
+
+-- The refusal is one of the one part, as its type's, or of what stands there in its place or behind it.
+abbrev pub PartFault : {R A : Type 0} → (R → Input) → (ReadErrorCode → Bool) → Bool → Bool → Bool
+    → (Raw → A → Type 0) → Form → Deserializer R → Error → Type 0
+PartFault seen refusals passes_over total reports_faults reads form old e =
+    let f = formats_of old.decoder.formats in
+    let levels = old.decoder.levels in
+    contents.PartFault refusals (TypeFault passes_over total reports_faults refusals f levels) reads f levels form (seen old.decoder.source) e
+
+-- Where memory ran out, it was asked for the part that is read as something, or for a message.
+abbrev pub MemoryForPart : {R A : Type 0} → (R → Input) → (Raw → Type 0) → (Raw → A → Type 0)
+    → Form → Deserializer R → Error → Type 0
+MemoryForPart seen asks reads form old e =
+    contents.MemoryForPart asks (formats_of old.decoder.formats) reads old.decoder.levels form (seen old.decoder.source) e
+
+-- ---- loops
 
 -- Fewer can still be read, so that a loop ends.
 abbrev pub Fewer : {R : Type 0} → (R → Input) → Remaining → Remaining → Deserializer R

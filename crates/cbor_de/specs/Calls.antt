@@ -1,7 +1,7 @@
 -- The words for a call on a deserializer, which is seen before and after it: those of `Takes` and
 -- `Forms`, of the inputs that its source stands for, the levels that are left and the formats that are
 -- read.
-use Rattle.std.specs.Prelude.{◌≡◌, ◌<◌, ℕ, Bool, Result, Ok, Err, Option}
+use Rattle.std.specs.Prelude.{◌≡◌, ◌<◌, ℕ, Bool, true, false, Result, Ok, Err, Option}
 use Rattle.cbor_model.specs.Raw.{Raw}
 use Rattle.cbor_io.specs.declared.error.Error.{Error}
 use Rattle.cbor_io.specs.declared.read_error.ReadErrorCode.{ReadErrorCode}
@@ -10,7 +10,7 @@ use Rattle.cbor_decode.specs.Decoder.{SameSettings}
 use Rattle.cbor_decode.specs.Steps as step
 use Rattle.cbor_decode_as.specs.DecoderCalls as decoder
 use Rattle.cbor_decode_as.specs.Takes as input
-use Rattle.cbor_decode_as.specs.Takes.{formats_of}
+use Rattle.cbor_decode_as.specs.Takes.{WhereTotal, formats_of}
 use Rattle.cbor_de.specs.Forms as form
 use Rattle.cbor_de.specs.Forms.{WrongForms}
 use Rattle.cbor_de.specs.declared.de.Deserializer.{Deserializer}
@@ -69,6 +69,25 @@ abbrev pub ReportsItem : {R : Type 0} → (R → Input) → (ReadErrorCode → B
     → Deserializer R → Error → Type 0
 ReportsItem seen refusals passes_over total old e =
     input.ReportsItem passes_over total refusals (formats_of old.decoder.formats) old.decoder.levels (seen old.decoder.source) e
+
+-- Where a type's refusals report the faults of the bytes: the fault of the item at the front, if the error
+-- reports one.
+abbrev pub OwnFault : {R : Type 0} → (R → Input) → (ReadErrorCode → Bool) → Bool → Deserializer R
+    → Error → Type 0
+OwnFault seen refusals reports_faults old e =
+    WhereTotal reports_faults (input.ItemFault refusals old.decoder.levels (seen old.decoder.source) e)
+
+-- Whether the refusals of a type report the faults of the bytes: it says so, or it passes over every item
+-- or reads it.
+abbrev pub reports_any : Bool → Bool → Bool → Bool
+reports_any true total reports_faults = true
+reports_any false true reports_faults = true
+reports_any false false reports_faults = reports_faults
+
+-- Both do.
+abbrev pub and_reports : Bool → Bool → Bool
+and_reports true other = other
+and_reports false other = false
 
 -- The error reports no wrong form; or one that may be reported.
 abbrev pub MayReport : {R : Type 0} → (R → Input) → WrongForms → Deserializer R → Error → Type 0

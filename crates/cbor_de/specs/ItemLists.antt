@@ -1,7 +1,7 @@
 -- The items that remain of an array, as a tuple.
 use Rattle.std.specs.Prelude.{◌≡◌, ◌⊎◌, ◌++◌, ℕ, Bool, List, Result, Ok, Err, Some, codes}
 use Rattle.std.specs.Fmt.{decimal}
-use Rattle.cbor_model.specs.Formats.{Formats}
+use Rattle.cbor_model.specs.Formats.{Formats, all_formats}
 use Rattle.cbor_model.specs.Raw.{Raw, Raws}
 use Rattle.cbor_model.specs.Reader.{Reads}
 use Rattle.cbor_io.specs.declared.error.Error.{Error}
@@ -14,7 +14,7 @@ use Rattle.cbor_decode.specs.declared.cursor.Remaining.{Remaining}
 use Rattle.cbor_decode_as.specs.Accesses.{IsEnd, items_at}
 use Rattle.cbor_decode_as.specs.Arrays.{AsArray, as_array_same, first_then_same}
 use Rattle.cbor_decode_as.specs.Enums.{part_then, no_part}
-use Rattle.cbor_decode_as.specs.Takes.{ExcusedBy, Refuses}
+use Rattle.cbor_decode_as.specs.Takes.{ExcusedBy, Refuses, ReportsIfAny}
 
 -- The items that are read mean x, and the rest follows them.
 pub record AreItems {A : Type 0} (items : Raws → A → Type 0) (read : Reads Raws) (x : A) (rest : List ℕ) : Type 0 where
@@ -47,6 +47,14 @@ ReportsShort refusals text remaining s e = (bs : List ℕ) → Reports s bs
     → (rest : List ℕ) → IsEnd (remaining_of remaining) (limits s bs) bs rest
     → ExcusedBy (ReportsIo refusals) (code_of e) (offset_of e)
     ⊎ (IsMessageOf (Some text) (code_of e) × (offset_of e ≡ 0))
+
+-- ---- the fault
+
+-- The fault of the items that remain of an array and of its end, if the error reports one, whatever formats
+-- their keys are of.
+abbrev pub ItemsFault : (ReadErrorCode → Bool) → ℕ → Remaining → Input → Error → Type 0
+ItemsFault refusals levels remaining s e =
+    ReportsIfAny refusals (λ l. items_at all_formats l levels (remaining_of remaining)) s e
 
 -- ---- laws
 

@@ -13,13 +13,20 @@ use Rattle.cbor_model.specs.Plain.{Val}
 use Rattle.cbor_model.specs.Reader.{Fault, Reads, item_at}
 use Rattle.cbor_io.specs.declared.error.Error.{Error}
 use Rattle.cbor_io.specs.declared.error.ErrorCode.{ErrorCode}
+use Rattle.cbor_io.specs.declared.error.ErrorCode.TheVariants.{EofWhileParsingValue}
+use Rattle.cbor_io.specs.declared.error.ErrorCode.TheVariants.{EofWhileParsingArray}
+use Rattle.cbor_io.specs.declared.error.ErrorCode.TheVariants.{EofWhileParsingMap, LengthOutOfRange}
+use Rattle.cbor_io.specs.declared.error.ErrorCode.TheVariants.{InvalidUtf8, UnassignedCode}
+use Rattle.cbor_io.specs.declared.error.ErrorCode.TheVariants.{UnexpectedCode, ScratchTooSmall}
+use Rattle.cbor_io.specs.declared.error.ErrorCode.TheVariants.{RecursionLimitExceeded}
 use Rattle.cbor_io.specs.declared.read_error.ReadErrorCode.{ReadErrorCode}
 use Rattle.cbor_io.specs.Error.{code_of, offset_of}
 use Rattle.cbor_read.specs.Source.{Input, Asks}
 use Rattle.cbor_decode.specs.FirstRefusal.{ReportsFirst}
 use Rattle.cbor_decode.specs.Gives.{FailsBy, limits, Reports, ReportsIo, whole_at}
 use Rattle.cbor_decode_as.specs.Takes.{raws, IsRead, IsNotRead, ExcusedBy, ReportsFault}
-use Rattle.cbor_decode_as.specs.Takes.{FaultOrMessage, IsMessage, ReportsOf, any_item}
+use Rattle.cbor_decode_as.specs.Takes.{FaultOrMessage, IsMessage, ReportsIfAny, ReportsOf, WhereTotal}
+use Rattle.cbor_decode_as.specs.Takes.{any_item}
 
 -- The one item that a source has to give is read as x, where so many levels are left.
 abbrev pub IsWholeRead : {A : Type 0} → Formats → (Raw → A → Type 0) → ℕ → Input → List ℕ → A
@@ -81,6 +88,33 @@ abbrev pub RefusesUnread : {A : Type 0} → (Raw → A → Type 0) → Option �
 RefusesUnread reads scratch bytes e =
     (IsMessage e × BeginsUnread reads scratch bytes)
     ⊎ (ReportsFirst (limits_of scratch) bytes e × (BeginsUnread reads scratch bytes → ⊥))
+
+-- ---- the faults of the bytes
+
+-- The fault of the one item that a source has to give, or that more follows it, if the error reports one,
+-- whatever formats its keys are of.
+abbrev pub WholeFault : (ReadErrorCode → Bool) → ℕ → Input → Error → Type 0
+WholeFault refusals levels s e = ReportsIfAny refusals (whole_at all_formats levels) s e
+
+-- the codes that report a fault of the bytes, and nothing else
+abbrev pub IsOfBytes : ErrorCode → Type 0
+IsOfBytes EofWhileParsingValue = Unit {0}
+IsOfBytes EofWhileParsingArray = Unit {0}
+IsOfBytes EofWhileParsingMap = Unit {0}
+IsOfBytes LengthOutOfRange = Unit {0}
+IsOfBytes InvalidUtf8 = Unit {0}
+IsOfBytes UnassignedCode = Unit {0}
+IsOfBytes UnexpectedCode = Unit {0}
+IsOfBytes RecursionLimitExceeded = Unit {0}
+IsOfBytes ScratchTooSmall = Unit {0}
+IsOfBytes _ = ⊥
+
+-- Where a type's refusals report the faults of the bytes, one by such a code is the first that the bytes allow.
+abbrev pub ReportsOwn : Bool → Option ℕ → List ℕ → Error → Type 0
+ReportsOwn reports_faults scratch bytes e =
+    WhereTotal reports_faults (IsOfBytes (code_of e) → ReportsFirst (limits_of scratch) bytes e)
+
+-- ---- what is lent
 
 -- What a slice lends: definite strings, for its whole life.
 abbrev pub from_slice_context : Context

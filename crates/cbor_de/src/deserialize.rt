@@ -31,6 +31,11 @@ use cbor_read::{Read, Source};
 /// so what isn't whole is refused by its fault, and an item, of keys of any formats, by a message.
 /// A type needn't, unless it says so: one that is read part by part stops at the part that it
 /// doesn't read.
+///
+/// `reports_faults` says that a refusal for a fault of the bytes reports the item's own: the first
+/// that the bytes allow, at its place. So it does where parts are read in their order, each by a
+/// type that does. That more items follow than an array of a fixed length takes is no fault of the
+/// bytes: `TrailingData` may report it. What reads or passes over every item does so anyway.
 pub trait Readable: Sized + Drop {
     ghost use Rattle.std.specs.Prelude.{⊤, Bool, false};
     ghost use Rattle.cbor_model.specs.Raw.{Raw};
@@ -47,6 +52,8 @@ pub trait Readable: Sized + Drop {
     ghost wrong_forms: { WrongForms } = { any_form };
 
     ghost passes_over: { Bool } = { false };
+
+    ghost reports_faults: { Bool } = { false };
 
     /// Reads the item at the front, if the bytes at hand show that it is one that the type reads.
     /// None where they don't, or where memory is wanting, and then nothing is taken: `deserialize`
@@ -242,6 +249,8 @@ pub trait Deserialize<'de, R: Read<'de>>: Readable {
         ensures taken { OnOk result (call.Advances R.source de.old de.new) }
         ensures fault { IfErr result
             (call.ReportsItem R.source R.refusals Self.passes_over Self.total de.old) }
+        ensures own_fault { IfErr result
+            (call.OwnFault R.source R.refusals Self.reports_faults de.old) }
         ensures memory { IfErr result
             (call.MemoryFor R.source (Self.asks_memory (asks_for R.refusals R.lends))
             (Self.reads (context de.old.decoder.formats R.lends)) de.old) }

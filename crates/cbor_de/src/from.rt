@@ -18,6 +18,7 @@ ghost use Rattle.cbor_decode_as.specs.Takes.{context, formats_of, lending, Memor
 ghost use Rattle.cbor_de.specs.Forms.{MayReport};
 ghost use Rattle.cbor_de.specs.Whole.{ReadsAll, RefusesUnread, ReportsWhole, from_slice_context};
 ghost use Rattle.cbor_de.specs.Whole.{from_mut_slice_context, from_reader_context};
+ghost use Rattle.cbor_de.specs.Whole.{ReportsOwn, WholeFault};
 ghost use Rattle.cbor_de.specs.Whole.{asks_none, from_reader_asks, from_slice_asks};
 ghost use Rattle.cbor_de.specs.Calls as call;
 
@@ -35,6 +36,9 @@ fn read_all<'de, T: Deserialize<'de, R>, R: Read<'de> + Drop>(alloc: Global, sou
         max_depth (R.source source) result }
     ensures fault { IfErr result (ReportsWhole T.passes_over T.total R.refusals all_formats
         (T.reads (lending all_formats R.lends)) max_depth (R.source source)) }
+    ensures own_fault { IfErr result (λ e. WhereTotal
+        (call.reports_any T.passes_over T.total T.reports_faults)
+        (WholeFault R.refusals max_depth (R.source source) e)) }
     ensures memory { IfErr result (MemoryFor (T.asks_memory (asks_for R.refusals R.lends))
         all_formats (T.reads (lending all_formats R.lends)) max_depth (R.source source)) }
     ensures form { IfErr result (MayReport T.wrong_forms all_formats (R.source source)) }
@@ -51,6 +55,9 @@ fn whole<'de, T: Deserialize<'de, R>, R: Read<'de>>(de: &mut Deserializer<R>) ->
     ensures fault { IfErr result (ReportsWhole T.passes_over T.total R.refusals
         (formats_of de.old.decoder.formats) (T.reads (context de.old.decoder.formats R.lends))
         de.old.decoder.levels (R.source de.old.decoder.source)) }
+    ensures own_fault { IfErr result (λ e. WhereTotal
+        (call.reports_any T.passes_over T.total T.reports_faults)
+        (WholeFault R.refusals de.old.decoder.levels (R.source de.old.decoder.source) e)) }
     ensures memory { IfErr result (MemoryFor (T.asks_memory (asks_for R.refusals R.lends))
         (formats_of de.old.decoder.formats) (T.reads (context de.old.decoder.formats R.lends))
         de.old.decoder.levels (R.source de.old.decoder.source)) }
@@ -109,10 +116,12 @@ fn are_bytes(slice: &[u8])
 /// Where several faults stand in one input, a type that reads every item, as `Value` does, returns
 /// the first. A bool, a number, a `char`, `()`, a string, and an `Option` of these return the first
 /// of the item that the bytes begin with, and `Message` exactly where an acceptable item stands
-/// there that they don't read. Of other types no clause says which fault is returned. But those,
-/// and a vector, an array or a tuple of them, never refuse an item for its form, by
-/// `ArrayTooShort`, `ArrayTooLong`, `WrongEnumFormat` or `WrongStructFormat`; and any other by the
-/// codes, and at the places, that it says (`Readable::wrong_forms`).
+/// there that they don't read. A vector, an array, a tuple, a set, a box or an `Option` of such
+/// types, nested in any way, returns no fault of the bytes but the first: before it may come a
+/// message, or `TrailingData` where an array has too many items. None of all these refuses an item
+/// for its form, by `ArrayTooShort`, `ArrayTooLong`, `WrongEnumFormat` or `WrongStructFormat`. Any
+/// other type does so by the codes, and at the places, that it says (`Readable::wrong_forms`), and
+/// returns any fault of the bytes, unless it says more (`Readable::reports_faults`).
 ///
 /// ```rust
 /// let number: u8 = from_slice(alloc, b"\x18\x2a")?;
@@ -148,6 +157,10 @@ pub fn from_slice<'a, T: Deserialize<'a, SliceRead<'a>>>(
     // begin with such an item, and the first that they allow if they don't; or memory ran out.
     ensures fault { IfErr result (λ e. WhereTotal T.passes_over
         (IsOutOfMemory e ⊎ RefusesUnread (T.reads from_slice_context) None slice.now e)) }
+    // Where the type reports the faults of the bytes, as vectors, arrays, tuples, sets and boxes of
+    // types that do, a refusal by the code of such a fault is the first that the bytes allow.
+    ensures own_fault { IfErr result (ReportsOwn
+        (call.reports_any T.passes_over T.total T.reports_faults) None slice.now) }
     // A wrong form is reported by a code, and at a place, that the type may report it by and at.
     ensures form { IfErr result
         (MayReport T.wrong_forms all_formats (start_of_slice slice.now None)) }
@@ -196,6 +209,9 @@ pub fn from_slice_with_scratch<'a, T: Deserialize<'a, SliceReadFixed<'a, 'a>>>(
         (IsOutOfMemory e ⊎ ReportsFirst (limits_of (Some (length scratch.old))) slice.now e)) }
     ensures fault { IfErr result (λ e. WhereTotal T.passes_over (IsOutOfMemory e
         ⊎ RefusesUnread (T.reads from_slice_context) (Some (length scratch.old)) slice.now e)) }
+    ensures own_fault { IfErr result (ReportsOwn
+        (call.reports_any T.passes_over T.total T.reports_faults) (Some (length scratch.old))
+        slice.now) }
     ensures form { IfErr result (MayReport T.wrong_forms all_formats
         (start_of_slice slice.now (Some (length scratch.old)))) }
 {
@@ -231,6 +247,8 @@ pub fn from_mut_slice<'a, T: Deserialize<'a, MutSliceRead<'a>>>(
         (IsOutOfMemory e ⊎ ReportsFirst (limits_of None) slice.old e)) }
     ensures fault { IfErr result (λ e. WhereTotal T.passes_over
         (IsOutOfMemory e ⊎ RefusesUnread (T.reads from_mut_slice_context) None slice.old e)) }
+    ensures own_fault { IfErr result (ReportsOwn
+        (call.reports_any T.passes_over T.total T.reports_faults) None slice.old) }
     ensures form { IfErr result
         (MayReport T.wrong_forms all_formats (start_of_slice slice.old None)) }
 {
@@ -263,6 +281,8 @@ pub fn from_vec<'de, T: DeserializeOwned + Deserialize<'de, VecRead>>(
         (IsOutOfMemory e ⊎ ReportsFirst (limits_of None) bytes.items e)) }
     ensures fault { IfErr result (λ e. WhereTotal T.passes_over
         (IsOutOfMemory e ⊎ RefusesUnread (T.reads from_reader_context) None bytes.items e)) }
+    ensures own_fault { IfErr result (ReportsOwn
+        (call.reports_any T.passes_over T.total T.reports_faults) None bytes.items) }
     ensures form { IfErr result (MayReport T.wrong_forms all_formats
         (start_of_slice bytes.items None)) }
 {
@@ -321,6 +341,9 @@ where
     ensures fault { (bytes : List ℕ) → Gave (R.remaining reader) bytes
         → IfErr result (λ e. WhereTotal T.passes_over
         (IsMemoryOrFault e ⊎ RefusesUnread (T.reads from_reader_context) None bytes e)) }
+    ensures own_fault { (bytes : List ℕ) → Gave (R.remaining reader) bytes
+        → IfErr result (ReportsOwn (call.reports_any T.passes_over T.total T.reports_faults)
+        None bytes) }
     ensures form { IfErr result (MayReport T.wrong_forms all_formats
         (start_of_reader (R.remaining reader))) }
 {

@@ -8,6 +8,7 @@ ghost use Rattle.cbor_decode_as.specs.Accesses.{TakesPart};
 ghost use Rattle.cbor_decode_as.specs.Arrays.{AsArray};
 ghost use Rattle.cbor_decode_as.specs.Takes.{context, formats_of};
 ghost use Rattle.cbor_de.specs.ItemLists.{ReportsShort, TakesItems, length_text};
+ghost use Rattle.cbor_de.specs.Access as access;
 ghost use Rattle.cbor_de.specs.Calls as call;
 
 use crate::de::Deserializer;
@@ -23,6 +24,7 @@ use cbor_read::Read;
 
 /// The items of an array that are read as a tuple, as `(u64, u8)`.
 pub trait ReadableTuple: Sized + Drop {
+    ghost use Rattle.std.specs.Prelude.{Bool};
     ghost use Rattle.cbor_model.specs.Raw.{Raws};
     ghost use Rattle.cbor_model.specs.Readable.{Context};
     ghost use Rattle.cbor_de.specs.Forms.{WrongForms};
@@ -32,6 +34,9 @@ pub trait ReadableTuple: Sized + Drop {
 
     // By which codes one of them may be refused for its form, and where.
     ghost wrong_forms: { WrongForms };
+
+    // Whether the refusals of each report the faults of the bytes.
+    ghost reports_faults: { Bool };
 }
 
 /// A tuple that is read from a source.
@@ -41,6 +46,8 @@ pub trait ReadTuple<'de, R: Read<'de>>: ReadableTuple {
         ensures read { TakesItems R.refusals (formats_of de.old.decoder.formats)
             (Self.parts (context de.old.decoder.formats R.lends)) de.old.decoder.levels remaining
             (R.source de.old.decoder.source) (R.source de.new.decoder.source) result }
+        ensures fault { IfErr result
+            (access.ItemsFault R.source R.refusals Self.reports_faults remaining de.old) }
         ensures form { IfErr result (call.MayReport R.source Self.wrong_forms de.old) }
         ensures formats { de.new.decoder.formats ≡ de.old.decoder.formats };
 }
@@ -55,6 +62,8 @@ pub(crate) fn read_array<'de, R: Read<'de>, T: ReadTuple<'de, R>>(
         (PassesTags (AsArray (T.parts (context de.old.decoder.formats R.lends))))
         de.old de.new result }
     ensures taken { OnOk result (call.Advances R.source de.old de.new) }
+    ensures own_fault { IfErr result
+        (call.OwnFault R.source R.refusals T.reports_faults de.old) }
     ensures form { IfErr result (call.MayReport R.source T.wrong_forms de.old) }
     ensures settings { SameSettings de.old.decoder de.new.decoder }
 {
@@ -80,6 +89,7 @@ pub(crate) fn read_array<'de, R: Read<'de>, T: ReadTuple<'de, R>>(
 
 // The parts of a tuple: `()`, or a part and the list of the others, as `(u64, (u8, ()))`.
 pub(crate) trait ItemList: Sized + Drop {
+    ghost use Rattle.std.specs.Prelude.{Bool};
     ghost use Rattle.cbor_model.specs.Raw.{Raws};
     ghost use Rattle.cbor_model.specs.Readable.{Context};
     ghost use Rattle.cbor_de.specs.Forms.{WrongForms};
@@ -89,6 +99,9 @@ pub(crate) trait ItemList: Sized + Drop {
 
     // By which codes one of them may be refused for its form, and where.
     ghost wrong_forms: { WrongForms };
+
+    // Whether the refusals of each report the faults of the bytes.
+    ghost reports_faults: { Bool };
 }
 
 // The parts of a tuple, which are read from a source.
@@ -104,17 +117,22 @@ pub(crate) trait ReadItems<'de, R: Read<'de>>: ItemList {
         ensures read { TakesItems R.refusals (formats_of de.old.decoder.formats)
             (Self.parts (context de.old.decoder.formats R.lends)) de.old.decoder.levels remaining
             (R.source de.old.decoder.source) (R.source de.new.decoder.source) result }
+        ensures fault { IfErr result
+            (access.ItemsFault R.source R.refusals Self.reports_faults remaining de.old) }
         ensures form { IfErr result (call.MayReport R.source Self.wrong_forms de.old) }
         ensures formats { de.new.decoder.formats ≡ de.old.decoder.formats };
 }
 
 impl ItemList for () {
+    ghost use Rattle.std.specs.Prelude.{true};
     ghost use Rattle.cbor_decode_as.specs.Enums.{no_part};
     ghost use Rattle.cbor_de.specs.Forms.{never};
 
     ghost parts = { λ c. no_part };
 
     ghost wrong_forms = { never };
+
+    ghost reports_faults = { true };
 }
 
 impl<'de, R: Read<'de>> ReadItems<'de, R> for () {
@@ -130,12 +148,16 @@ impl<'de, R: Read<'de>> ReadItems<'de, R> for () {
 }
 
 impl<A: Readable, F: ItemList> ItemList for (A, F) {
+    ghost use Rattle.cbor_de.specs.Calls.{and_reports, reports_any};
     ghost use Rattle.cbor_de.specs.Forms.{any_of};
     ghost use Rattle.cbor_decode_as.specs.Enums.{part_then};
 
     ghost parts = { λ c. part_then (A.reads c) (F.parts c) };
 
     ghost wrong_forms = { any_of A.wrong_forms F.wrong_forms };
+
+    ghost reports_faults = { and_reports (reports_any A.passes_over A.total A.reports_faults)
+        F.reports_faults };
 }
 
 impl<'de, R: Read<'de>, A: Deserialize<'de, R>, F: ReadItems<'de, R>> ReadItems<'de, R> for (A, F) {
@@ -172,6 +194,8 @@ fn next_part<'de, R: Read<'de>, T: Deserialize<'de, R>>(
         (R.source de.old.decoder.source) (R.source de.new.decoder.source) result }
     ensures short { IfErr result (ReportsShort R.refusals (length_text before expected)
         remaining.old (R.source de.old.decoder.source)) }
+    ensures fault { IfErr result (access.ItemsFault R.source R.refusals
+        (call.reports_any T.passes_over T.total T.reports_faults) remaining.old de.old) }
     ensures form { IfErr result (call.MayReport R.source T.wrong_forms de.old) }
     ensures settings { SameSettings de.old.decoder de.new.decoder }
 {

@@ -122,6 +122,9 @@ impl<'a, R: Source> MapAccess<'a, R> {
             self.old.de.now) }
         ensures fault { IfErr result (access.KeyFault R.source R.refusals K.passes_over K.total
             self.old.remaining self.old.de.now) }
+        ensures own_fault { IfErr result (access.OwnKeyFault R.source R.refusals
+            (call.reports_any K.passes_over K.total K.reports_faults) self.old.remaining
+            self.old.de.now) }
         // Nothing remains after the last pair, and a loop over the pairs ends.
         ensures remains { IfOk result
             (access.Ends R.source self.old.remaining self.new.remaining self.old.de.now
@@ -174,6 +177,8 @@ impl<'a, R: Source> MapAccess<'a, R> {
             (V.reads (context self.old.de.now.decoder.formats R.lends)) self.old.de.now) }
         ensures fault { IfErr result (call.ReportsItem R.source R.refusals V.passes_over V.total
             self.old.de.now) }
+        ensures own_fault { IfErr result (call.OwnFault R.source R.refusals
+            (call.reports_any V.passes_over V.total V.reports_faults) self.old.de.now) }
         ensures form { IfErr result (call.MayReport R.source V.wrong_forms self.old.de.now) }
         ensures due { IfOk result (λ v. self.new.value_due ≡ false) }
         ensures settings { call.StaysInside self.old.outer self.old.de.now self.new.de.now result }

@@ -32,6 +32,8 @@ pub(crate) fn read_gathered<'de, R: Read<'de>, T: Deserialize<'de, R>>(
 ) -> Result<T>
     ensures read { call.TakesItem R.source R.refusals
         (T.reads (context de.old.decoder.formats R.lends)) de.old de.new result }
+    ensures own_fault { IfErr result (call.OwnFault R.source R.refusals
+        (call.reports_any T.passes_over T.total T.reports_faults) de.old) }
     ensures form { IfErr result (call.MayReport R.source T.wrong_forms de.old) }
     ensures settings { SameSettings de.old.decoder de.new.decoder }
 {

@@ -7,7 +7,10 @@ ghost use Rattle.cbor_io.specs.Error.{IsMessageOf, code_of, offset_of};
 ghost use Rattle.cbor_read.specs.Source.{asks_for};
 ghost use Rattle.cbor_io.specs.declared.error.ErrorCode.TheVariants.{OutOfMemory};
 ghost use Rattle.cbor_decode.specs.Gives.{IsErrorOf, ReportsNoForm};
-ghost use Rattle.cbor_decode.specs.Gives.{ReportsNoKey};
+ghost use Rattle.cbor_decode.specs.Gives.{ReportsNoKey, ReportsWhy};
+ghost use Rattle.cbor_decode.specs.Heads.{remaining_of};
+ghost use Rattle.cbor_model.specs.Reader.{next_at};
+ghost use Rattle.cbor_model.specs.Refusal.{end_in_array};
 ghost use Rattle.cbor_decode_as.specs.Accesses.{TakesEnd, size_of, TakesMore};
 ghost use Rattle.cbor_decode_as.specs.Takes.{IsMessage, OnceMade, context};
 ghost use Rattle.cbor_de.specs.ItemLists.{ReportsShort, length_text};
@@ -135,6 +138,9 @@ impl<'a, R: Source> SeqAccess<'a, R> {
             self.old.de.now) }
         ensures fault { IfErr result (access.NextFault R.source R.refusals T.passes_over T.total
             self.old.remaining self.old.de.now) }
+        ensures own_fault { IfErr result (access.ItemsFault R.source R.refusals
+            (call.reports_any T.passes_over T.total T.reports_faults) self.old.remaining
+            self.old.de.now) }
         ensures form { IfErr result (call.MayReport R.source T.wrong_forms self.old.de.now) }
         // Nothing remains after the last item, and a loop over the items ends.
         ensures remains { IfOk result
@@ -186,6 +192,10 @@ impl<'a, R: Source> SeqAccess<'a, R> {
             self.new.remaining self.old.de.now self.new.de.now result }
         ensures short { IfErr result (ReportsShort R.refusals (length_text before expected)
             self.old.remaining (R.source self.old.de.now.decoder.source)) }
+        // What the reading of `T` reports of the bytes; a missing item is a message.
+        ensures own_fault { IfErr result (access.ItemsFault R.source R.refusals
+            (call.reports_any T.passes_over T.total T.reports_faults) self.old.remaining
+            self.old.de.now) }
         ensures form { IfErr result (call.MayReport R.source T.wrong_forms self.old.de.now) }
         ensures settings { call.StaysInside self.old.outer self.old.de.now self.new.de.now result }
         ensures outer { self.new.outer ≡ self.old.outer }
@@ -262,6 +272,9 @@ impl<'a, R: Source> SeqAccess<'a, R> {
             (TakesMore R.refusals self.old.remaining self.new.remaining
             (R.source self.old.de.now.decoder.source)
             (R.source self.new.de.now.decoder.source)) result }
+        ensures fault { IfErr result (ReportsWhy R.refusals
+            (λ l. next_at end_in_array (remaining_of self.old.remaining))
+            (R.source self.old.de.now.decoder.source) self.new.de.now.decoder.refusal) }
         ensures counts { IfOk result (λ more. Counts self.old.remaining more self.new.remaining) }
         ensures no_key { IfErr result (ReportsNoKey self.new.de.now.decoder.refusal) }
         ensures settings { SameSettings self.old.de.now.decoder self.new.de.now.decoder }

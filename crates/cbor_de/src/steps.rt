@@ -14,7 +14,8 @@ ghost use Rattle.cbor_decode.specs.Gives.{IsErrorOf, ReportsNoForm};
 ghost use Rattle.cbor_decode.specs.declared.head.Head.TheVariants as kind;
 ghost use Rattle.cbor_decode.specs.declared.refusal.Refused.TheVariants.{Kept};
 ghost use Rattle.cbor_decode_as.specs.Identifiers.{texts};
-ghost use Rattle.cbor_decode_as.specs.Takes.{formats_of};
+ghost use Rattle.cbor_decode_as.specs.Contents.{ContentFault, PartsFault};
+ghost use Rattle.cbor_decode_as.specs.Takes.{formats_of, ItemFault};
 ghost use Rattle.cbor_decode_as.specs.Begins.{BeginningFault, MemoryForOther, TakesBeginning};
 ghost use Rattle.cbor_decode_as.specs.BeginsEnum.{TakesPartsHead, TakesVariantHead};
 ghost use Rattle.cbor_io.specs.declared.error.ErrorCode.TheVariants.{ArrayTooLong, OutOfMemory};
@@ -134,6 +135,8 @@ pub fn variant_head<'de, R: Read<'de>>(
         (formats_of de.old.decoder.formats) (texts names.now) de.old.decoder.levels
         (R.source de.old.decoder.source) (R.source de.new.decoder.source)
         de.new.decoder.levels result }
+    ensures fault { IfErr result (ItemFault R.refusals de.old.decoder.levels
+        (R.source de.old.decoder.source)) }
     ensures cases { IfErr result (λ e. HasCase (R.source de.old.decoder.source) e
         (enum_cases (formats_of de.old.decoder.formats)
         de.old.decoder.levels)) }
@@ -183,6 +186,8 @@ pub fn parts<R: Source>(de: &mut Deserializer<R>, form: Form) -> Result<Remainin
     ensures opened { TakesPartsHead R.refusals de.old.decoder.levels form
         (R.source de.old.decoder.source) (R.source de.new.decoder.source)
         de.new.decoder.levels result }
+    ensures fault { IfErr result (PartsFault R.refusals de.old.decoder.levels form
+        (R.source de.old.decoder.source)) }
     ensures alone { IfErr result (ReportsAlone (alone_text (codes "tuple")) form) }
     ensures no_form { IfErr result (λ e. ReportsNoForm (code_of e)) }
     ensures inside { IfOk result (λ r. IsEntered form de.old.decoder.levels
@@ -204,6 +209,8 @@ pub fn no_part<R: Source>(de: &mut Deserializer<R>, form: Form) -> Result<()>
         (R.source de.old.decoder.source) (R.source de.new.decoder.source) result }
     ensures cases { IfErr result (λ e. HasCase (R.source de.old.decoder.source) e
         (unit_cases form)) }
+    ensures fault { IfErr result (ContentFault R.refusals de.old.decoder.levels form
+        (R.source de.old.decoder.source)) }
     ensures code { IfErr result (λ e. FormAlone ArrayTooLong (code_of e)) }
     ensures settings { SameSettings de.old.decoder de.new.decoder }
 {

@@ -8,12 +8,17 @@ use cbor_io::error::Result;
 use cbor_read::Read;
 
 impl<A: Readable> ReadableTuple for (A,) {
+    ghost use Rattle.std.specs.Prelude.{true};
+    ghost use Rattle.cbor_de.specs.Calls.{and_reports, reports_any};
     ghost use Rattle.cbor_de.specs.Forms.{any_of, never};
     ghost use Rattle.cbor_decode_as.specs.Enums.{part_then, no_part};
 
     ghost parts = { λ c all x. part_then (A.reads c) no_part all (x.0, tt) };
 
     ghost wrong_forms = { any_of A.wrong_forms never };
+
+    ghost reports_faults = { and_reports (reports_any A.passes_over A.total A.reports_faults)
+        true };
 }
 
 impl<'de, R: Read<'de>, A: Deserialize<'de, R>> ReadTuple<'de, R> for (A,) {
@@ -30,6 +35,8 @@ impl<'de, R: Read<'de>, A: Deserialize<'de, R>> ReadTuple<'de, R> for (A,) {
 }
 
 impl<A: Readable, B: Readable> ReadableTuple for (A, B) {
+    ghost use Rattle.std.specs.Prelude.{true};
+    ghost use Rattle.cbor_de.specs.Calls.{and_reports, reports_any};
     ghost use Rattle.cbor_de.specs.Forms.{any_of, never};
     ghost use Rattle.cbor_decode_as.specs.Enums.{part_then, no_part};
 
@@ -38,6 +45,10 @@ impl<A: Readable, B: Readable> ReadableTuple for (A, B) {
         all (x.0, (x.1, tt)) };
 
     ghost wrong_forms = { any_of A.wrong_forms (any_of B.wrong_forms never) };
+
+    ghost reports_faults = { and_reports (reports_any A.passes_over A.total A.reports_faults)
+        (and_reports (reports_any B.passes_over B.total B.reports_faults)
+        true) };
 }
 
 impl<'de, R: Read<'de>, A: Deserialize<'de, R>, B: Deserialize<'de, R>> ReadTuple<'de, R>
@@ -55,6 +66,8 @@ impl<'de, R: Read<'de>, A: Deserialize<'de, R>, B: Deserialize<'de, R>> ReadTupl
 }
 
 impl<A: Readable, B: Readable, C: Readable> ReadableTuple for (A, B, C) {
+    ghost use Rattle.std.specs.Prelude.{true};
+    ghost use Rattle.cbor_de.specs.Calls.{and_reports, reports_any};
     ghost use Rattle.cbor_de.specs.Forms.{any_of, never};
     ghost use Rattle.cbor_decode_as.specs.Enums.{part_then, no_part};
 
@@ -65,6 +78,11 @@ impl<A: Readable, B: Readable, C: Readable> ReadableTuple for (A, B, C) {
 
     ghost wrong_forms = { any_of A.wrong_forms (any_of B.wrong_forms
         (any_of C.wrong_forms never)) };
+
+    ghost reports_faults = { and_reports (reports_any A.passes_over A.total A.reports_faults)
+        (and_reports (reports_any B.passes_over B.total B.reports_faults)
+        (and_reports (reports_any C.passes_over C.total C.reports_faults)
+        true)) };
 }
 
 impl<
@@ -87,6 +105,8 @@ impl<
 }
 
 impl<A: Readable, B: Readable, C: Readable, D: Readable> ReadableTuple for (A, B, C, D) {
+    ghost use Rattle.std.specs.Prelude.{true};
+    ghost use Rattle.cbor_de.specs.Calls.{and_reports, reports_any};
     ghost use Rattle.cbor_de.specs.Forms.{any_of, never};
     ghost use Rattle.cbor_decode_as.specs.Enums.{part_then, no_part};
 
@@ -98,6 +118,12 @@ impl<A: Readable, B: Readable, C: Readable, D: Readable> ReadableTuple for (A, B
 
     ghost wrong_forms = { any_of A.wrong_forms (any_of B.wrong_forms (any_of C.wrong_forms
         (any_of D.wrong_forms never))) };
+
+    ghost reports_faults = { and_reports (reports_any A.passes_over A.total A.reports_faults)
+        (and_reports (reports_any B.passes_over B.total B.reports_faults)
+        (and_reports (reports_any C.passes_over C.total C.reports_faults)
+        (and_reports (reports_any D.passes_over D.total D.reports_faults)
+        true))) };
 }
 
 impl<
@@ -122,6 +148,8 @@ impl<
 
 impl<A: Readable, B: Readable, C: Readable, D: Readable, E: Readable> ReadableTuple
     for (A, B, C, D, E) {
+    ghost use Rattle.std.specs.Prelude.{true};
+    ghost use Rattle.cbor_de.specs.Calls.{and_reports, reports_any};
     ghost use Rattle.cbor_de.specs.Forms.{any_of, never};
     ghost use Rattle.cbor_decode_as.specs.Enums.{part_then, no_part};
 
@@ -134,6 +162,13 @@ impl<A: Readable, B: Readable, C: Readable, D: Readable, E: Readable> ReadableTu
 
     ghost wrong_forms = { any_of A.wrong_forms (any_of B.wrong_forms (any_of C.wrong_forms
         (any_of D.wrong_forms (any_of E.wrong_forms never)))) };
+
+    ghost reports_faults = { and_reports (reports_any A.passes_over A.total A.reports_faults)
+        (and_reports (reports_any B.passes_over B.total B.reports_faults)
+        (and_reports (reports_any C.passes_over C.total C.reports_faults)
+        (and_reports (reports_any D.passes_over D.total D.reports_faults)
+        (and_reports (reports_any E.passes_over E.total E.reports_faults)
+        true)))) };
 }
 
 impl<
@@ -159,6 +194,8 @@ impl<
 
 impl<A: Readable, B: Readable, C: Readable, D: Readable, E: Readable, F: Readable> ReadableTuple
     for (A, B, C, D, E, F) {
+    ghost use Rattle.std.specs.Prelude.{true};
+    ghost use Rattle.cbor_de.specs.Calls.{and_reports, reports_any};
     ghost use Rattle.cbor_de.specs.Forms.{any_of, never};
     ghost use Rattle.cbor_decode_as.specs.Enums.{part_then, no_part};
 
@@ -172,6 +209,14 @@ impl<A: Readable, B: Readable, C: Readable, D: Readable, E: Readable, F: Readabl
 
     ghost wrong_forms = { any_of A.wrong_forms (any_of B.wrong_forms (any_of C.wrong_forms
         (any_of D.wrong_forms (any_of E.wrong_forms (any_of F.wrong_forms never))))) };
+
+    ghost reports_faults = { and_reports (reports_any A.passes_over A.total A.reports_faults)
+        (and_reports (reports_any B.passes_over B.total B.reports_faults)
+        (and_reports (reports_any C.passes_over C.total C.reports_faults)
+        (and_reports (reports_any D.passes_over D.total D.reports_faults)
+        (and_reports (reports_any E.passes_over E.total E.reports_faults)
+        (and_reports (reports_any F.passes_over F.total F.reports_faults)
+        true))))) };
 }
 
 impl<
@@ -207,6 +252,8 @@ impl<
     F: Readable,
     G: Readable,
 > ReadableTuple for (A, B, C, D, E, F, G) {
+    ghost use Rattle.std.specs.Prelude.{true};
+    ghost use Rattle.cbor_de.specs.Calls.{and_reports, reports_any};
     ghost use Rattle.cbor_de.specs.Forms.{any_of, never};
     ghost use Rattle.cbor_decode_as.specs.Enums.{part_then, no_part};
 
@@ -222,6 +269,15 @@ impl<
     ghost wrong_forms = { any_of A.wrong_forms (any_of B.wrong_forms (any_of C.wrong_forms
         (any_of D.wrong_forms (any_of E.wrong_forms (any_of F.wrong_forms
         (any_of G.wrong_forms never)))))) };
+
+    ghost reports_faults = { and_reports (reports_any A.passes_over A.total A.reports_faults)
+        (and_reports (reports_any B.passes_over B.total B.reports_faults)
+        (and_reports (reports_any C.passes_over C.total C.reports_faults)
+        (and_reports (reports_any D.passes_over D.total D.reports_faults)
+        (and_reports (reports_any E.passes_over E.total E.reports_faults)
+        (and_reports (reports_any F.passes_over F.total F.reports_faults)
+        (and_reports (reports_any G.passes_over G.total G.reports_faults)
+        true)))))) };
 }
 
 impl<
@@ -259,6 +315,8 @@ impl<
     G: Readable,
     H: Readable,
 > ReadableTuple for (A, B, C, D, E, F, G, H) {
+    ghost use Rattle.std.specs.Prelude.{true};
+    ghost use Rattle.cbor_de.specs.Calls.{and_reports, reports_any};
     ghost use Rattle.cbor_de.specs.Forms.{any_of, never};
     ghost use Rattle.cbor_decode_as.specs.Enums.{part_then, no_part};
 
@@ -275,6 +333,16 @@ impl<
     ghost wrong_forms = { any_of A.wrong_forms (any_of B.wrong_forms (any_of C.wrong_forms
         (any_of D.wrong_forms (any_of E.wrong_forms (any_of F.wrong_forms (any_of G.wrong_forms
         (any_of H.wrong_forms never))))))) };
+
+    ghost reports_faults = { and_reports (reports_any A.passes_over A.total A.reports_faults)
+        (and_reports (reports_any B.passes_over B.total B.reports_faults)
+        (and_reports (reports_any C.passes_over C.total C.reports_faults)
+        (and_reports (reports_any D.passes_over D.total D.reports_faults)
+        (and_reports (reports_any E.passes_over E.total E.reports_faults)
+        (and_reports (reports_any F.passes_over F.total F.reports_faults)
+        (and_reports (reports_any G.passes_over G.total G.reports_faults)
+        (and_reports (reports_any H.passes_over H.total H.reports_faults)
+        true))))))) };
 }
 
 impl<

@@ -6,14 +6,15 @@ mod character;
 mod floats;
 mod ignored;
 mod maps;
-mod numbers;
 mod option;
 mod raw;
 mod sequences;
 mod sets;
+mod signed;
 mod simple;
 mod strings;
 mod tuples;
+mod unsigned;
 mod value;
 
 pub use ignored::IgnoredAny;

@@ -4,6 +4,7 @@ ghost use Rattle.std.specs.Prelude.{◌≡◌, ◌<◌, codes, length};
 ghost use Rattle.std.specs.Prelude.{IfOk, IfErr};
 ghost use Rattle.std.specs.Borrow.{sem, RestsIfErr};
 ghost use Rattle.cbor_io.specs.Error.{code_of};
+ghost use Rattle.cbor_read.specs.Source.{asks_for};
 ghost use Rattle.cbor_decode.specs.Decoder.{SameSettings};
 ghost use Rattle.cbor_decode.specs.Gives.{ReportsNoForm};
 ghost use Rattle.cbor_io.specs.declared.error.ErrorCode.TheVariants.{ArrayTooLong};
@@ -11,6 +12,7 @@ ghost use Rattle.cbor_decode_as.specs.Cases.{FormAlone, IsEnumCode, HasCase};
 ghost use Rattle.cbor_decode_as.specs.Cases.{enum_cases, unit_cases, ReportsTooShort};
 ghost use Rattle.cbor_decode_as.specs.Enums.{IsNothing, IsPart};
 ghost use Rattle.cbor_decode_as.specs.Identifiers.{texts};
+ghost use Rattle.cbor_decode_as.specs.Strings.{IsAskedString};
 ghost use Rattle.cbor_decode_as.specs.Takes.{context, formats_of};
 ghost use Rattle.cbor_decode_as.specs.Variants.{IsInside};
 ghost use Rattle.cbor_decode_as.specs.Variants.{ReportsAlone, alone_text};
@@ -64,6 +66,9 @@ impl<'de, R: Read<'de>> Deserializer<R> {
         ensures cases { IfErr result (λ e. HasCase (R.source self.old.decoder.source) e
             (enum_cases (formats_of self.old.decoder.formats)
             self.old.decoder.levels)) }
+        ensures fault { IfErr result (access.VariantFault R.source R.refusals self.old) }
+        ensures memory { IfErr result (access.MemoryForVariant R.source
+            (IsAskedString (asks_for R.refusals R.lends)) (texts names.now) self.old) }
         ensures code { IfErr result (λ e. IsEnumCode (code_of e)) }
         ensures below { IfOk result (λ v. v.index < length names.now) }
         ensures taken { IfOk result (λ v. call.Advances R.source self.old v.de.now) }
@@ -87,6 +92,12 @@ impl<'de, R: Read<'de>> Deserializer<R> {
         ensures read { access.TakesContent R.source R.refusals
             (IsPart (T.reads (context self.old.decoder.formats R.lends))) (Array remaining)
             self.old self.new result }
+        ensures fault { IfErr result (access.PartFault R.source R.refusals
+            T.passes_over T.total T.reports_faults
+            (T.reads (context self.old.decoder.formats R.lends)) (Array remaining) self.old) }
+        ensures memory { IfErr result (access.MemoryForPart R.source
+            (T.asks_memory (asks_for R.refusals R.lends))
+            (T.reads (context self.old.decoder.formats R.lends)) (Array remaining) self.old) }
         ensures form { IfErr result (MayReportPart T.wrong_forms
             (formats_of self.old.decoder.formats) (Array remaining)
             (R.source self.old.decoder.source)) }
@@ -111,6 +122,12 @@ pub fn one_part<'de, R: Read<'de>, T: Deserialize<'de, R>>(
 ) -> Result<T>
     ensures read { access.TakesContent R.source R.refusals
         (IsPart (T.reads (context de.old.decoder.formats R.lends))) form de.old de.new result }
+    ensures fault { IfErr result (access.PartFault R.source R.refusals
+        T.passes_over T.total T.reports_faults
+        (T.reads (context de.old.decoder.formats R.lends)) form de.old) }
+    ensures memory { IfErr result (access.MemoryForPart R.source
+        (T.asks_memory (asks_for R.refusals R.lends))
+        (T.reads (context de.old.decoder.formats R.lends)) form de.old) }
     ensures alone { IfErr result (ReportsAlone alone.now form) }
     ensures form { IfErr result (MayReportPart T.wrong_forms
         (formats_of de.old.decoder.formats) form (R.source de.old.decoder.source)) }
@@ -168,6 +185,10 @@ impl<'a, R: Source> VariantAccess<'a, R> {
             self.entry.de.now self.exit.0.now result }
         ensures cases { IfErr result (λ e. HasCase (R.source self.entry.de.now.decoder.source) e
             (unit_cases self.entry.form)) }
+        ensures fault { IfErr result
+            (access.ContentFault R.source R.refusals self.entry.form self.entry.de.now) }
+        ensures memory { IfErr result
+            (access.MemoryForNull R.source self.entry.form self.entry.de.now) }
         ensures code { IfErr result (λ e. FormAlone ArrayTooLong (code_of e)) }
         ensures settings { call.BackTo self.entry.outer self.entry.de.now self.exit.0.now }
     {
@@ -200,6 +221,14 @@ impl<'a, R: Source> VariantAccess<'a, R> {
             self.entry.de.now self.exit.0.now result }
         ensures alone { IfErr result
             (ReportsAlone (alone_text (codes "newtype")) self.entry.form) }
+        ensures fault { IfErr result (access.PartFault R.source R.refusals
+            T.passes_over T.total T.reports_faults
+            (T.reads (context self.entry.de.now.decoder.formats R.lends)) self.entry.form
+            self.entry.de.now) }
+        ensures memory { IfErr result (access.MemoryForPart R.source
+            (T.asks_memory (asks_for R.refusals R.lends))
+            (T.reads (context self.entry.de.now.decoder.formats R.lends)) self.entry.form
+            self.entry.de.now) }
         // That nothing follows the identifier is reported there alone.
         ensures form { IfErr result (MayReportPart T.wrong_forms
             (formats_of self.entry.de.now.decoder.formats) self.entry.form
@@ -242,6 +271,14 @@ impl<'a, R: Source> VariantAccess<'a, R> {
             self.entry.de.now self.exit.0.now result }
         ensures alone { IfErr result
             (ReportsAlone (alone_text (codes "struct")) self.entry.form) }
+        ensures fault { IfErr result (access.PartFault R.source R.refusals
+            T.passes_over T.total T.reports_faults
+            (T.reads (context self.entry.de.now.decoder.formats R.lends)) self.entry.form
+            self.entry.de.now) }
+        ensures memory { IfErr result (access.MemoryForPart R.source
+            (T.asks_memory (asks_for R.refusals R.lends))
+            (T.reads (context self.entry.de.now.decoder.formats R.lends)) self.entry.form
+            self.entry.de.now) }
         // That nothing follows the identifier is reported there alone.
         ensures form { IfErr result (MayReportPart T.wrong_forms
             (formats_of self.entry.de.now.decoder.formats) self.entry.form
@@ -293,6 +330,10 @@ impl<'a, R: Source> VariantAccess<'a, R> {
             (access.RefusesPartsHead R.source R.refusals self.entry.form self.entry.de.now) }
         ensures alone { IfErr result
             (ReportsAlone (alone_text (codes "tuple")) self.entry.form) }
+        ensures fault { IfErr result
+            (access.PartsFault R.source R.refusals self.entry.form self.entry.de.now) }
+        ensures memory { IfErr result
+            (access.MemoryForParts R.source self.entry.form self.entry.de.now) }
         ensures no_form { IfErr result (λ e. ReportsNoForm (code_of e)) }
         ensures settings { IfOk result
             (λ s. call.Within self.entry.outer s.outer self.entry.de.now s.de.now) }

@@ -4,3 +4,5 @@ pub mod OneOfs
 pub mod OneParts
 pub mod Makings
 pub mod FieldForms
+pub mod FieldFaults
+pub mod VariantFaults

@@ -1,2 +1,3 @@
+pub mod Contents
 pub mod FieldLists
 pub mod OneOfs

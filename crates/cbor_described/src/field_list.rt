@@ -1,29 +1,28 @@
 //! Lists of fields, of which structs are read.
 
-ghost use Rattle.std.specs.Prelude.{◌≡◌, ◌≤◌, true, length, map, Some, Ok, IfOk, IfErr, OnOk};
+ghost use Rattle.std.specs.Prelude.{◌≡◌, ◌≤◌, true, length, map, Some, IfOk, IfErr, OnOk};
 ghost use Rattle.std.specs.Prelude.{MatchBool};
 ghost use Rattle.std.specs.Bool.{OnFalse};
-ghost use Rattle.std.specs.Option.{is_some};
 ghost use Rattle.cbor_model.specs.Readable.{Context};
 ghost use Rattle.cbor_parts.specs.Keys.{AreKeysOf, keys_of};
 ghost use Rattle.cbor_decode.specs.Decoder.{SameSettings};
 ghost use Rattle.cbor_read.specs.Source.{asks_for};
 ghost use Rattle.cbor_decode.specs.HasChunks.{AsksWhere, HasChunks};
-ghost use Rattle.cbor_described.specs.FieldLists.{FieldTaken, NamesLacking, TakesField, TakesSlot};
-ghost use Rattle.cbor_described.specs.FieldLists.{MemoryForField, MemoryForSlot, ReadBefore};
+ghost use Rattle.cbor_described.specs.FieldLists.{FieldTaken, MemoryForField, NamesLacking};
+ghost use Rattle.cbor_described.specs.FieldLists.{ReadBefore, TakesField};
 ghost use Rattle.cbor_de.specs.StructMemory.{AsksForFields};
 ghost use Rattle.cbor_de.specs.Fields.{AreHeld, IsHeld, Lacks, none_yet};
 ghost use Rattle.cbor_de.specs.Structs.{IsAny, IsKeyed, IsMapOf, duplicate_text, missing_text};
-ghost use Rattle.cbor_io.specs.Error.{IsMessageOf, code_of};
+ghost use Rattle.cbor_io.specs.Error.{IsMessageOf, code_of, offset_of};
 ghost use Rattle.cbor_decode.specs.Gives.{ReportsNoForm};
 ghost use Rattle.cbor_decode_as.specs.Takes.{context, formats_of};
 ghost use Rattle.cbor_de.specs.Forms.{any_of, key_form};
 ghost use Rattle.cbor_de.specs.Calls as call;
 
+use crate::field_slot::{ReadField, slot_at_hand};
 use cbor_de::steps::{end_map, leave_to, map_head};
 use cbor_de::{
-    Deserialize, Deserializer, Field, FieldType, IgnoredAny, Read, Readable, Source,
-    duplicate_field, missing_field, next_key,
+    Deserialize, Deserializer, Field, FieldType, IgnoredAny, Read, missing_field, next_key,
 };
 use cbor_io::error::Result;
 use cbor_parts::FieldKeys;
@@ -32,7 +31,7 @@ use std::alloc::Global;
 // The fields of a struct: `()`, or a field and the list of the others, as `(u32, (String, ()))`, or
 // four and the list of the others.
 pub(crate) trait FieldList: Sized + Drop {
-    ghost use Rattle.std.specs.Prelude.{List, ℕ};
+    ghost use Rattle.std.specs.Prelude.{Bool, List, ℕ};
     ghost use Rattle.cbor_model.specs.Raw.{Raw};
     ghost use Rattle.cbor_model.specs.Readable.{Context};
     ghost use Rattle.cbor_read.specs.Source.{Asks};
@@ -54,6 +53,9 @@ pub(crate) trait FieldList: Sized + Drop {
     // By which codes the value of one of them may be refused for its form, and where.
     ghost wrong_forms: { WrongForms };
 
+    // Whether the refusals of all of them report the faults of the bytes.
+    ghost reports_faults: { Bool };
+
     // For which values memory may be asked, of the field in each place.
     ghost asks: { Asks → ℕ → Raw → Type 0 };
 
@@ -69,6 +71,7 @@ pub(crate) trait FieldList: Sized + Drop {
             → AreHeld (fields c) (slots c held) x) }
         ensures lacking { IfErr result (λ e. (c : Context) → NamesLacking (fields c)
             (map (λ n. n.now) names.now) (slots c held) (code_of e)) }
+        ensures offset { IfErr result (λ e. offset_of e ≡ 0) }
         ensures no_form { IfErr result (λ e. ReportsNoForm (code_of e)) };
 }
 
@@ -87,6 +90,9 @@ pub(crate) trait ReadFields<'de, R: Read<'de>>: FieldList {
             → IsMessageOf (Some (duplicate_text name.now)) (code_of e)) }
         ensures form { IfErr result
             (call.MayReport R.source (any_of key_form Self.wrong_forms) de.old) }
+        // The fault of the value, where each type reports its own.
+        ensures fault { IfErr result
+            (call.OwnFault R.source R.refusals Self.reports_faults de.old) }
         ensures memory { let c = context de.old.decoder.formats R.lends in
             IfErr result (MemoryForField (formats_of de.old.decoder.formats)
             de.old.decoder.levels (Self.asks (asks_for R.refusals R.lends)) (Self.fields c) i
@@ -109,40 +115,8 @@ pub(crate) trait ReadFields<'de, R: Read<'de>>: FieldList {
         ensures settings { SameSettings de.old.decoder de.new.decoder };
 }
 
-// A field of a struct, which is read from a source. What has several fields asks for this of each:
-// of a type's own promises only those that a field needs are passed on then.
-pub(crate) trait ReadField<'de, R: Read<'de>>: FieldType {
-    // Reads the value of the field into its slot. A slot that has a value is refused with
-    // ``duplicate field `id` ``.
-    fn take_slot(de: &mut Deserializer<R>, name: &str, slot: &mut Option<Self>) -> Result<()>
-        ensures read { TakesSlot
-            (formats_of de.old.decoder.formats) de.old.decoder.levels R.refusals
-            (Self.reads (context de.old.decoder.formats R.lends)) slot.old slot.new
-            (R.source de.old.decoder.source) (R.source de.new.decoder.source) result }
-        // A slot that has a value is refused by the name.
-        ensures twice { IfErr result (λ e. is_some slot.old ≡ true
-            → IsMessageOf (Some (duplicate_text name.now)) (code_of e)) }
-        ensures form { IfErr result (call.MayReport R.source Self.Of.wrong_forms de.old) }
-        ensures memory { IfErr result (MemoryForSlot (formats_of de.old.decoder.formats)
-            de.old.decoder.levels (Self.Of.asks_memory (asks_for R.refusals R.lends))
-            (Self.reads (context de.old.decoder.formats R.lends)) slot.old
-            (R.source de.old.decoder.source)) }
-        ensures forward { IfOk result (λ u. (R.source de.old.decoder.source).offset
-            ≤ (R.source de.new.decoder.source).offset) }
-        ensures settings { SameSettings de.old.decoder de.new.decoder };
-}
-
-impl<'de, R: Read<'de>, A: FieldType> ReadField<'de, R> for A
-where
-    A::Of: Deserialize<'de, R>,
-{
-    fn take_slot(de: &mut Deserializer<R>, name: &str, slot: &mut Option<A>) -> Result<()> {
-        fill_slot::<R, A>(de, name, slot)
-    }
-}
-
 impl FieldList for () {
-    ghost use Rattle.std.specs.Prelude.{[]};
+    ghost use Rattle.std.specs.Prelude.{[], true};
     ghost use Rattle.cbor_de.specs.Forms.{never};
     ghost use Rattle.cbor_de.specs.StructMemory.{passed_over};
 
@@ -155,6 +129,8 @@ impl FieldList for () {
     ghost slots = { λ c held. held };
 
     ghost wrong_forms = { never };
+
+    ghost reports_faults = { true };
 
     ghost asks = { passed_over };
 
@@ -177,6 +153,7 @@ impl<'de, R: Read<'de>> ReadFields<'de, R> for () {
 
 impl<A: FieldType, F: FieldList> FieldList for (A, F) {
     ghost use Rattle.std.specs.Prelude.{◌∷◌, ◌+◌};
+    ghost use Rattle.cbor_de.specs.Calls.{and_reports, reports_any};
     ghost use Rattle.cbor_de.specs.Forms.{any_of};
     ghost use Rattle.cbor_described.specs.FieldLists.{over, slots_over};
     ghost use Rattle.cbor_de.specs.Structs.{field_or};
@@ -192,6 +169,9 @@ impl<A: FieldType, F: FieldList> FieldList for (A, F) {
     ghost slots = { λ c held. (held.0, slots_over (λ p. p.1) (F.fields c) (F.slots c held.1)) };
 
     ghost wrong_forms = { any_of A.Of.wrong_forms F.wrong_forms };
+
+    ghost reports_faults = { and_reports
+        (reports_any A.Of.passes_over A.Of.total A.Of.reports_faults) F.reports_faults };
 
     ghost asks = { λ a. field_then (A.Of.asks_memory a) (F.asks a) };
 
@@ -212,6 +192,7 @@ impl<A: FieldType, F: FieldList> FieldList for (A, F) {
 impl<A: FieldType, B: FieldType, C: FieldType, D: FieldType, F: FieldList> FieldList
     for (A, B, C, D, F) {
     ghost use Rattle.std.specs.Prelude.{◌∷◌, ◌+◌};
+    ghost use Rattle.cbor_de.specs.Calls.{and_reports, reports_any};
     ghost use Rattle.cbor_de.specs.Forms.{any_of};
     ghost use Rattle.cbor_described.specs.FieldLists.{over, slots_over};
     ghost use Rattle.cbor_de.specs.Structs.{field_or};
@@ -244,6 +225,12 @@ impl<A: FieldType, B: FieldType, C: FieldType, D: FieldType, F: FieldList> Field
     ghost wrong_forms = { any_of A.Of.wrong_forms (any_of B.Of.wrong_forms (any_of C.Of.wrong_forms
         (any_of D.Of.wrong_forms F.wrong_forms))) };
 
+    ghost reports_faults = { and_reports
+        (reports_any A.Of.passes_over A.Of.total A.Of.reports_faults) (and_reports
+        (reports_any B.Of.passes_over B.Of.total B.Of.reports_faults) (and_reports
+        (reports_any C.Of.passes_over C.Of.total C.Of.reports_faults) (and_reports
+        (reports_any D.Of.passes_over D.Of.total D.Of.reports_faults) F.reports_faults))) };
+
     ghost asks = { λ a. field_then (A.Of.asks_memory a) (field_then (B.Of.asks_memory a)
         (field_then (C.Of.asks_memory a) (field_then (D.Of.asks_memory a) (F.asks a)))) };
 
@@ -271,6 +258,7 @@ fn required_field<A: FieldType>(alloc: Global, name: &str, held: Option<A>) -> R
     ensures held { IfOk result (λ x. IsHeld held A.missing x) }
     ensures lacks { IfErr result (λ e. Lacks A.missing held) }
     ensures text { IfErr result (λ e. IsMessageOf (Some (missing_text name.now)) (code_of e)) }
+    ensures offset { IfErr result (λ e. offset_of e ≡ 0) }
     ensures no_form { IfErr result (λ e. ReportsNoForm (code_of e)) }
 {
     match held {
@@ -344,71 +332,11 @@ impl<
     }
 }
 
-// Reads the value of a field into its slot, where it is at hand and the slot has no value.
-#[inline(always)]
-fn slot_at_hand<R: Source, A: FieldType>(de: &mut Deserializer<R>, slot: &mut Option<A>) -> bool
-    ensures read { MatchBool result
-        (TakesSlot (formats_of de.old.decoder.formats) de.old.decoder.levels R.refusals
-        (A.reads (context de.old.decoder.formats R.lends)) slot.old slot.new
-        (R.source de.old.decoder.source) (R.source de.new.decoder.source) (Ok tt))
-        (R.source de.new.decoder.source ≡ R.source de.old.decoder.source) }
-    ensures held { OnFalse result (slot.new ≡ slot.old) }
-    ensures forward { (R.source de.old.decoder.source).offset
-        ≤ (R.source de.new.decoder.source).offset }
-    ensures settings { SameSettings de.old.decoder de.new.decoder }
-{
-    match slot {
-        Some(_) => false,
-        None => match <A::Of as Readable>::at_hand(de) {
-            Some(value) => {
-                *slot = Some(A::given(value));
-                true
-            }
-            None => false,
-        },
-    }
-}
-
-// Reads the value of a field into its slot. A slot that has a value is refused with
-// ``duplicate field `id` ``.
-#[tactic(auto, using(cbor_de::proofs::facts::Forms::plain))]
-fn fill_slot<'de, R: Read<'de>, A: FieldType>(
-    de: &mut Deserializer<R>,
-    name: &str,
-    slot: &mut Option<A>,
-) -> Result<()>
-where
-    A::Of: Deserialize<'de, R>,
-    ensures read { TakesSlot (formats_of de.old.decoder.formats) de.old.decoder.levels R.refusals
-        (A.reads (context de.old.decoder.formats R.lends)) slot.old slot.new
-        (R.source de.old.decoder.source) (R.source de.new.decoder.source) result }
-    ensures twice { IfErr result (λ e. is_some slot.old ≡ true
-        → IsMessageOf (Some (duplicate_text name.now)) (code_of e)) }
-    ensures form { IfErr result (call.MayReport R.source A.Of.wrong_forms de.old) }
-    ensures memory { IfErr result (MemoryForSlot (formats_of de.old.decoder.formats)
-        de.old.decoder.levels (A.Of.asks_memory (asks_for R.refusals R.lends))
-        (A.reads (context de.old.decoder.formats R.lends)) slot.old
-        (R.source de.old.decoder.source)) }
-    ensures forward { IfOk result (λ u. (R.source de.old.decoder.source).offset
-        ≤ (R.source de.new.decoder.source).offset) }
-    ensures settings { SameSettings de.old.decoder de.new.decoder }
-{
-    if slot.is_some() {
-        return Err(duplicate_field(de.alloc(), name));
-    }
-    match <A::Of as Deserialize<'de, R>>::deserialize(de) {
-        Ok(value) => {
-            *slot = Some(A::given(value));
-            Ok(())
-        }
-        Err(e) => Err(e),
-    }
-}
-
 // Passes over an item.
 fn skip_item<'de, R: Read<'de>>(de: &mut Deserializer<R>) -> Result<()>
     ensures read { call.TakesItem R.source R.refusals IsAny de.old de.new result }
     ensures form { IfErr result (call.MayReport R.source key_form de.old) }
+    ensures fault { IfErr result (call.OwnFault R.source R.refusals true de.old) }
     ensures memory { IfErr result (call.MemoryFor R.source
         (λ r. AsksWhere (asks_for R.refusals R.lends) (HasChunks r)) IsAny de.old) }
     ensures settings { SameSettings de.old.decoder de.new.decoder }
@@ -430,6 +358,7 @@ pub(crate) fn read_fields<'de, R: Read<'de>, F: ReadFields<'de, R>>(
         de.old de.new result }
     ensures taken { OnOk result (call.Advances R.source de.old de.new) }
     ensures form { IfErr result (call.MayReport R.source (any_of key_form F.wrong_forms) de.old) }
+    ensures fault { IfErr result (call.OwnFault R.source R.refusals F.reports_faults de.old) }
     ensures memory { IfErr result (call.MemoryFor R.source
         (AsksForFields (IsKeyed (keys_of keys.now)) (asks_for R.refusals R.lends)
         (F.asks (asks_for R.refusals R.lends)))
@@ -455,6 +384,7 @@ fn fields_within<'de, R: Read<'de>, F: ReadFields<'de, R>>(
         de.old de.new result }
     ensures taken { OnOk result (call.Advances R.source de.old de.new) }
     ensures form { IfErr result (call.MayReport R.source (any_of key_form F.wrong_forms) de.old) }
+    ensures fault { IfErr result (call.OwnFault R.source R.refusals F.reports_faults de.old) }
     ensures memory { IfErr result (call.MemoryFor R.source
         (AsksForFields (IsKeyed (keys_of keys.now)) (asks_for R.refusals R.lends)
         (F.asks (asks_for R.refusals R.lends)))

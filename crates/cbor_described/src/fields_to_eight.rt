@@ -1,6 +1,7 @@
 //! Structs of five to eight fields, that are read as tuples of them.
 
-use crate::field_list::{ReadField, ReadFields, read_fields};
+use crate::field_list::{ReadFields, read_fields};
+use crate::field_slot::ReadField;
 use crate::parts::{ReadParts, ReadableParts};
 use cbor_de::{Deserializer, FieldType, Read};
 use cbor_io::error::Result;
@@ -8,7 +9,8 @@ use cbor_parts::FieldKeys;
 
 impl<A: FieldType, B: FieldType, C: FieldType, D: FieldType, E: FieldType> ReadableParts
     for (A, B, C, D, E) {
-    ghost use Rattle.std.specs.Prelude.{[], ◌∷◌};
+    ghost use Rattle.std.specs.Prelude.{[], ◌∷◌, true};
+    ghost use Rattle.cbor_de.specs.Calls.{and_reports, reports_any};
     ghost use Rattle.cbor_de.specs.Forms.{any_of, key_form, never};
     ghost use Rattle.cbor_de.specs.Structs.{IsKeyed, IsMapOf, field_or};
     ghost use Rattle.cbor_de.specs.StructMemory.{AsksForFields, field_then, passed_over};
@@ -23,6 +25,13 @@ impl<A: FieldType, B: FieldType, C: FieldType, D: FieldType, E: FieldType> Reada
 
     ghost wrong_forms = { any_of key_form (any_of A.Of.wrong_forms (any_of B.Of.wrong_forms
         (any_of C.Of.wrong_forms (any_of D.Of.wrong_forms (any_of E.Of.wrong_forms never))))) };
+
+    ghost reports_faults = { and_reports
+        (reports_any A.Of.passes_over A.Of.total A.Of.reports_faults) (and_reports
+        (reports_any B.Of.passes_over B.Of.total B.Of.reports_faults) (and_reports
+        (reports_any C.Of.passes_over C.Of.total C.Of.reports_faults) (and_reports
+        (reports_any D.Of.passes_over D.Of.total D.Of.reports_faults) (and_reports
+        (reports_any E.Of.passes_over E.Of.total E.Of.reports_faults) true)))) };
 
     ghost asks_memory = { λ keys a. AsksForFields (IsKeyed keys) a
         (field_then (A.Of.asks_memory a) (field_then (B.Of.asks_memory a)
@@ -61,7 +70,8 @@ impl<
     E: FieldType,
     F: FieldType,
 > ReadableParts for (A, B, C, D, E, F) {
-    ghost use Rattle.std.specs.Prelude.{[], ◌∷◌};
+    ghost use Rattle.std.specs.Prelude.{[], ◌∷◌, true};
+    ghost use Rattle.cbor_de.specs.Calls.{and_reports, reports_any};
     ghost use Rattle.cbor_de.specs.Forms.{any_of, key_form, never};
     ghost use Rattle.cbor_de.specs.Structs.{IsKeyed, IsMapOf, field_or};
     ghost use Rattle.cbor_de.specs.StructMemory.{AsksForFields, field_then, passed_over};
@@ -78,6 +88,14 @@ impl<
     ghost wrong_forms = { any_of key_form (any_of A.Of.wrong_forms (any_of B.Of.wrong_forms
         (any_of C.Of.wrong_forms (any_of D.Of.wrong_forms (any_of E.Of.wrong_forms
         (any_of F.Of.wrong_forms never)))))) };
+
+    ghost reports_faults = { and_reports
+        (reports_any A.Of.passes_over A.Of.total A.Of.reports_faults) (and_reports
+        (reports_any B.Of.passes_over B.Of.total B.Of.reports_faults) (and_reports
+        (reports_any C.Of.passes_over C.Of.total C.Of.reports_faults) (and_reports
+        (reports_any D.Of.passes_over D.Of.total D.Of.reports_faults) (and_reports
+        (reports_any E.Of.passes_over E.Of.total E.Of.reports_faults) (and_reports
+        (reports_any F.Of.passes_over F.Of.total F.Of.reports_faults) true))))) };
 
     ghost asks_memory = { λ keys a. AsksForFields (IsKeyed keys) a
         (field_then (A.Of.asks_memory a) (field_then (B.Of.asks_memory a)
@@ -119,7 +137,8 @@ impl<
     F: FieldType,
     G: FieldType,
 > ReadableParts for (A, B, C, D, E, F, G) {
-    ghost use Rattle.std.specs.Prelude.{[], ◌∷◌};
+    ghost use Rattle.std.specs.Prelude.{[], ◌∷◌, true};
+    ghost use Rattle.cbor_de.specs.Calls.{and_reports, reports_any};
     ghost use Rattle.cbor_de.specs.Forms.{any_of, key_form, never};
     ghost use Rattle.cbor_de.specs.Structs.{IsKeyed, IsMapOf, field_or};
     ghost use Rattle.cbor_de.specs.StructMemory.{AsksForFields, field_then, passed_over};
@@ -138,6 +157,15 @@ impl<
         (any_of C.Of.wrong_forms (any_of D.Of.wrong_forms (any_of E.Of.wrong_forms
         (any_of F.Of.wrong_forms
         (any_of G.Of.wrong_forms never))))))) };
+
+    ghost reports_faults = { and_reports
+        (reports_any A.Of.passes_over A.Of.total A.Of.reports_faults) (and_reports
+        (reports_any B.Of.passes_over B.Of.total B.Of.reports_faults) (and_reports
+        (reports_any C.Of.passes_over C.Of.total C.Of.reports_faults) (and_reports
+        (reports_any D.Of.passes_over D.Of.total D.Of.reports_faults) (and_reports
+        (reports_any E.Of.passes_over E.Of.total E.Of.reports_faults) (and_reports
+        (reports_any F.Of.passes_over F.Of.total F.Of.reports_faults) (and_reports
+        (reports_any G.Of.passes_over G.Of.total G.Of.reports_faults) true)))))) };
 
     ghost asks_memory = { λ keys a. AsksForFields (IsKeyed keys) a
         (field_then (A.Of.asks_memory a) (field_then (B.Of.asks_memory a)
@@ -181,7 +209,8 @@ impl<
     G: FieldType,
     H: FieldType,
 > ReadableParts for (A, B, C, D, E, F, G, H) {
-    ghost use Rattle.std.specs.Prelude.{[], ◌∷◌};
+    ghost use Rattle.std.specs.Prelude.{[], ◌∷◌, true};
+    ghost use Rattle.cbor_de.specs.Calls.{and_reports, reports_any};
     ghost use Rattle.cbor_de.specs.Forms.{any_of, key_form, never};
     ghost use Rattle.cbor_de.specs.Structs.{IsKeyed, IsMapOf, field_or};
     ghost use Rattle.cbor_de.specs.StructMemory.{AsksForFields, field_then, passed_over};
@@ -201,6 +230,16 @@ impl<
         (any_of C.Of.wrong_forms (any_of D.Of.wrong_forms (any_of E.Of.wrong_forms
         (any_of F.Of.wrong_forms
         (any_of G.Of.wrong_forms (any_of H.Of.wrong_forms never)))))))) };
+
+    ghost reports_faults = { and_reports
+        (reports_any A.Of.passes_over A.Of.total A.Of.reports_faults) (and_reports
+        (reports_any B.Of.passes_over B.Of.total B.Of.reports_faults) (and_reports
+        (reports_any C.Of.passes_over C.Of.total C.Of.reports_faults) (and_reports
+        (reports_any D.Of.passes_over D.Of.total D.Of.reports_faults) (and_reports
+        (reports_any E.Of.passes_over E.Of.total E.Of.reports_faults) (and_reports
+        (reports_any F.Of.passes_over F.Of.total F.Of.reports_faults) (and_reports
+        (reports_any G.Of.passes_over G.Of.total G.Of.reports_faults) (and_reports
+        (reports_any H.Of.passes_over H.Of.total H.Of.reports_faults) true))))))) };
 
     ghost asks_memory = { λ keys a. AsksForFields (IsKeyed keys) a
         (field_then (A.Of.asks_memory a) (field_then (B.Of.asks_memory a)

@@ -1,6 +1,7 @@
 //! Structs of nine to twelve fields, that are read as tuples of them.
 
-use crate::field_list::{ReadField, ReadFields, read_fields};
+use crate::field_list::{ReadFields, read_fields};
+use crate::field_slot::ReadField;
 use crate::parts::{ReadParts, ReadableParts};
 use cbor_de::{Deserializer, FieldType, Read};
 use cbor_io::error::Result;
@@ -17,7 +18,8 @@ impl<
     H: FieldType,
     I: FieldType,
 > ReadableParts for (A, B, C, D, E, F, G, H, I) {
-    ghost use Rattle.std.specs.Prelude.{[], ◌∷◌};
+    ghost use Rattle.std.specs.Prelude.{[], ◌∷◌, true};
+    ghost use Rattle.cbor_de.specs.Calls.{and_reports, reports_any};
     ghost use Rattle.cbor_de.specs.Forms.{any_of, key_form, never};
     ghost use Rattle.cbor_de.specs.Structs.{IsKeyed, IsMapOf, field_or};
     ghost use Rattle.cbor_de.specs.StructMemory.{AsksForFields, field_then, passed_over};
@@ -39,6 +41,17 @@ impl<
         (any_of C.Of.wrong_forms (any_of D.Of.wrong_forms (any_of E.Of.wrong_forms
         (any_of F.Of.wrong_forms
         (any_of G.Of.wrong_forms (any_of H.Of.wrong_forms (any_of I.Of.wrong_forms never))))))))) };
+
+    ghost reports_faults = { and_reports
+        (reports_any A.Of.passes_over A.Of.total A.Of.reports_faults) (and_reports
+        (reports_any B.Of.passes_over B.Of.total B.Of.reports_faults) (and_reports
+        (reports_any C.Of.passes_over C.Of.total C.Of.reports_faults) (and_reports
+        (reports_any D.Of.passes_over D.Of.total D.Of.reports_faults) (and_reports
+        (reports_any E.Of.passes_over E.Of.total E.Of.reports_faults) (and_reports
+        (reports_any F.Of.passes_over F.Of.total F.Of.reports_faults) (and_reports
+        (reports_any G.Of.passes_over G.Of.total G.Of.reports_faults) (and_reports
+        (reports_any H.Of.passes_over H.Of.total H.Of.reports_faults) (and_reports
+        (reports_any I.Of.passes_over I.Of.total I.Of.reports_faults) true)))))))) };
 
     ghost asks_memory = { λ keys a. AsksForFields (IsKeyed keys) a
         (field_then (A.Of.asks_memory a) (field_then (B.Of.asks_memory a)
@@ -94,7 +107,8 @@ impl<
     I: FieldType,
     J: FieldType,
 > ReadableParts for (A, B, C, D, E, F, G, H, I, J) {
-    ghost use Rattle.std.specs.Prelude.{[], ◌∷◌};
+    ghost use Rattle.std.specs.Prelude.{[], ◌∷◌, true};
+    ghost use Rattle.cbor_de.specs.Calls.{and_reports, reports_any};
     ghost use Rattle.cbor_de.specs.Forms.{any_of, key_form, never};
     ghost use Rattle.cbor_de.specs.Structs.{IsKeyed, IsMapOf, field_or};
     ghost use Rattle.cbor_de.specs.StructMemory.{AsksForFields, field_then, passed_over};
@@ -118,6 +132,18 @@ impl<
         (any_of F.Of.wrong_forms
         (any_of G.Of.wrong_forms (any_of H.Of.wrong_forms (any_of I.Of.wrong_forms
         (any_of J.Of.wrong_forms never)))))))))) };
+
+    ghost reports_faults = { and_reports
+        (reports_any A.Of.passes_over A.Of.total A.Of.reports_faults) (and_reports
+        (reports_any B.Of.passes_over B.Of.total B.Of.reports_faults) (and_reports
+        (reports_any C.Of.passes_over C.Of.total C.Of.reports_faults) (and_reports
+        (reports_any D.Of.passes_over D.Of.total D.Of.reports_faults) (and_reports
+        (reports_any E.Of.passes_over E.Of.total E.Of.reports_faults) (and_reports
+        (reports_any F.Of.passes_over F.Of.total F.Of.reports_faults) (and_reports
+        (reports_any G.Of.passes_over G.Of.total G.Of.reports_faults) (and_reports
+        (reports_any H.Of.passes_over H.Of.total H.Of.reports_faults) (and_reports
+        (reports_any I.Of.passes_over I.Of.total I.Of.reports_faults) (and_reports
+        (reports_any J.Of.passes_over J.Of.total J.Of.reports_faults) true))))))))) };
 
     ghost asks_memory = { λ keys a. AsksForFields (IsKeyed keys) a
         (field_then (A.Of.asks_memory a) (field_then (B.Of.asks_memory a)
@@ -182,7 +208,8 @@ impl<
     J: FieldType,
     K: FieldType,
 > ReadableParts for (A, B, C, D, E, F, G, H, I, J, K) {
-    ghost use Rattle.std.specs.Prelude.{[], ◌∷◌};
+    ghost use Rattle.std.specs.Prelude.{[], ◌∷◌, true};
+    ghost use Rattle.cbor_de.specs.Calls.{and_reports, reports_any};
     ghost use Rattle.cbor_de.specs.Forms.{any_of, key_form, never};
     ghost use Rattle.cbor_de.specs.Structs.{IsKeyed, IsMapOf, field_or};
     ghost use Rattle.cbor_de.specs.StructMemory.{AsksForFields, field_then, passed_over};
@@ -208,6 +235,19 @@ impl<
         (any_of G.Of.wrong_forms (any_of H.Of.wrong_forms (any_of I.Of.wrong_forms
         (any_of J.Of.wrong_forms
         (any_of K.Of.wrong_forms never))))))))))) };
+
+    ghost reports_faults = { and_reports
+        (reports_any A.Of.passes_over A.Of.total A.Of.reports_faults) (and_reports
+        (reports_any B.Of.passes_over B.Of.total B.Of.reports_faults) (and_reports
+        (reports_any C.Of.passes_over C.Of.total C.Of.reports_faults) (and_reports
+        (reports_any D.Of.passes_over D.Of.total D.Of.reports_faults) (and_reports
+        (reports_any E.Of.passes_over E.Of.total E.Of.reports_faults) (and_reports
+        (reports_any F.Of.passes_over F.Of.total F.Of.reports_faults) (and_reports
+        (reports_any G.Of.passes_over G.Of.total G.Of.reports_faults) (and_reports
+        (reports_any H.Of.passes_over H.Of.total H.Of.reports_faults) (and_reports
+        (reports_any I.Of.passes_over I.Of.total I.Of.reports_faults) (and_reports
+        (reports_any J.Of.passes_over J.Of.total J.Of.reports_faults) (and_reports
+        (reports_any K.Of.passes_over K.Of.total K.Of.reports_faults) true)))))))))) };
 
     ghost asks_memory = { λ keys a. AsksForFields (IsKeyed keys) a
         (field_then (A.Of.asks_memory a) (field_then (B.Of.asks_memory a)
@@ -274,7 +314,8 @@ impl<
     K: FieldType,
     L: FieldType,
 > ReadableParts for (A, B, C, D, E, F, G, H, I, J, K, L) {
-    ghost use Rattle.std.specs.Prelude.{[], ◌∷◌};
+    ghost use Rattle.std.specs.Prelude.{[], ◌∷◌, true};
+    ghost use Rattle.cbor_de.specs.Calls.{and_reports, reports_any};
     ghost use Rattle.cbor_de.specs.Forms.{any_of, key_form, never};
     ghost use Rattle.cbor_de.specs.Structs.{IsKeyed, IsMapOf, field_or};
     ghost use Rattle.cbor_de.specs.StructMemory.{AsksForFields, field_then, passed_over};
@@ -301,6 +342,20 @@ impl<
         (any_of G.Of.wrong_forms (any_of H.Of.wrong_forms (any_of I.Of.wrong_forms
         (any_of J.Of.wrong_forms
         (any_of K.Of.wrong_forms (any_of L.Of.wrong_forms never)))))))))))) };
+
+    ghost reports_faults = { and_reports
+        (reports_any A.Of.passes_over A.Of.total A.Of.reports_faults) (and_reports
+        (reports_any B.Of.passes_over B.Of.total B.Of.reports_faults) (and_reports
+        (reports_any C.Of.passes_over C.Of.total C.Of.reports_faults) (and_reports
+        (reports_any D.Of.passes_over D.Of.total D.Of.reports_faults) (and_reports
+        (reports_any E.Of.passes_over E.Of.total E.Of.reports_faults) (and_reports
+        (reports_any F.Of.passes_over F.Of.total F.Of.reports_faults) (and_reports
+        (reports_any G.Of.passes_over G.Of.total G.Of.reports_faults) (and_reports
+        (reports_any H.Of.passes_over H.Of.total H.Of.reports_faults) (and_reports
+        (reports_any I.Of.passes_over I.Of.total I.Of.reports_faults) (and_reports
+        (reports_any J.Of.passes_over J.Of.total J.Of.reports_faults) (and_reports
+        (reports_any K.Of.passes_over K.Of.total K.Of.reports_faults) (and_reports
+        (reports_any L.Of.passes_over L.Of.total L.Of.reports_faults) true))))))))))) };
 
     ghost asks_memory = { λ keys a. AsksForFields (IsKeyed keys) a
         (field_then (A.Of.asks_memory a) (field_then (B.Of.asks_memory a)

@@ -7,6 +7,7 @@
 #![tactic(auto)]
 
 mod field_list;
+mod field_slot;
 mod fields_to_eight;
 mod fields_to_twelve;
 mod one_of;

@@ -11,9 +11,10 @@ use cbor_io::error::Result;
 use cbor_parts::{FieldKeys, OneOf1, OneOf2, OneOf3, OneOf4, OneOf5, OneOf6, OneOf7, OneOf8};
 
 impl<A: Variant> ReadableParts for OneOf1<A> {
-    ghost use Rattle.std.specs.Prelude.{⊤};
+    ghost use Rattle.std.specs.Prelude.{⊤, true};
     ghost use Rattle.cbor_model.specs.Readable.{PassesTags};
     ghost use Rattle.cbor_decode_as.specs.Enums.{IsEnum};
+    ghost use Rattle.cbor_de.specs.Calls.{and_reports};
     ghost use Rattle.cbor_de.specs.Forms.{any_of, enum_form, never};
     ghost use Rattle.cbor_described.specs.OneOfs.{either, no_variant, list1};
 
@@ -21,6 +22,8 @@ impl<A: Variant> ReadableParts for OneOf1<A> {
         (IsEnum c.formats keys.names (either (A.means c) no_variant)) r (list1 x) };
 
     ghost wrong_forms = { any_of enum_form (any_of A.wrong_forms never) };
+
+    ghost reports_faults = { and_reports A.reports_faults true };
 
     ghost asks_memory = { λ keys a r. ⊤ };
 }
@@ -44,9 +47,10 @@ fn one_of1<A: Drop>(list: OneOf<A, Never>) -> OneOf1<A>
 }
 
 impl<A: Variant, B: Variant> ReadableParts for OneOf2<A, B> {
-    ghost use Rattle.std.specs.Prelude.{⊤};
+    ghost use Rattle.std.specs.Prelude.{⊤, true};
     ghost use Rattle.cbor_model.specs.Readable.{PassesTags};
     ghost use Rattle.cbor_decode_as.specs.Enums.{IsEnum};
+    ghost use Rattle.cbor_de.specs.Calls.{and_reports};
     ghost use Rattle.cbor_de.specs.Forms.{any_of, enum_form, never};
     ghost use Rattle.cbor_described.specs.OneOfs.{either, no_variant, list2};
 
@@ -54,6 +58,8 @@ impl<A: Variant, B: Variant> ReadableParts for OneOf2<A, B> {
         (IsEnum c.formats keys.names (either (A.means c) (either (B.means c) no_variant))) r (list2 x) };
 
     ghost wrong_forms = { any_of enum_form (any_of A.wrong_forms (any_of B.wrong_forms never)) };
+
+    ghost reports_faults = { and_reports A.reports_faults (and_reports B.reports_faults true) };
 
     ghost asks_memory = { λ keys a r. ⊤ };
 }
@@ -79,20 +85,23 @@ fn one_of2<A: Drop, B: Drop>(list: OneOf<A, OneOf<B, Never>>) -> OneOf2<A, B>
 }
 
 impl<A: Variant, B: Variant, C: Variant> ReadableParts for OneOf3<A, B, C> {
-    ghost use Rattle.std.specs.Prelude.{⊤};
+    ghost use Rattle.std.specs.Prelude.{⊤, true};
     ghost use Rattle.cbor_model.specs.Readable.{PassesTags};
     ghost use Rattle.cbor_decode_as.specs.Enums.{IsEnum};
+    ghost use Rattle.cbor_de.specs.Calls.{and_reports};
     ghost use Rattle.cbor_de.specs.Forms.{any_of, enum_form, never};
     ghost use Rattle.cbor_described.specs.OneOfs.{either, no_variant, list3};
 
     ghost reads = { λ keys c r x. PassesTags
         (IsEnum c.formats keys.names (either (A.means c)
-        (either (B.means c)
-        (either (C.means c) no_variant))))
+        (either (B.means c) (either (C.means c) no_variant))))
         r (list3 x) };
 
     ghost wrong_forms = { any_of enum_form (any_of A.wrong_forms (any_of B.wrong_forms
         (any_of C.wrong_forms never))) };
+
+    ghost reports_faults = { and_reports A.reports_faults (and_reports B.reports_faults
+        (and_reports C.reports_faults true)) };
 
     ghost asks_memory = { λ keys a r. ⊤ };
 }
@@ -124,22 +133,25 @@ fn one_of3<A: Drop, B: Drop, C: Drop>(list: OneOf<A, OneOf<B, OneOf<C, Never>>>)
 }
 
 impl<A: Variant, B: Variant, C: Variant, D: Variant> ReadableParts for OneOf4<A, B, C, D> {
-    ghost use Rattle.std.specs.Prelude.{⊤};
+    ghost use Rattle.std.specs.Prelude.{⊤, true};
     ghost use Rattle.cbor_model.specs.Readable.{PassesTags};
     ghost use Rattle.cbor_decode_as.specs.Enums.{IsEnum};
+    ghost use Rattle.cbor_de.specs.Calls.{and_reports};
     ghost use Rattle.cbor_de.specs.Forms.{any_of, enum_form, never};
     ghost use Rattle.cbor_described.specs.OneOfs.{either, no_variant, list4};
 
     ghost reads = { λ keys c r x. PassesTags
         (IsEnum c.formats keys.names (either (A.means c)
         (either (B.means c)
-        (either (C.means c)
-        (either (D.means c) no_variant)))))
+        (either (C.means c) (either (D.means c) no_variant)))))
         r (list4 x) };
 
     ghost wrong_forms = { any_of enum_form (any_of A.wrong_forms (any_of B.wrong_forms
         (any_of C.wrong_forms
         (any_of D.wrong_forms never)))) };
+
+    ghost reports_faults = { and_reports A.reports_faults (and_reports B.reports_faults
+        (and_reports C.reports_faults (and_reports D.reports_faults true))) };
 
     ghost asks_memory = { λ keys a r. ⊤ };
 }
@@ -176,9 +188,10 @@ fn one_of4<A: Drop, B: Drop, C: Drop, D: Drop>(
 
 impl<A: Variant, B: Variant, C: Variant, D: Variant, E: Variant> ReadableParts
     for OneOf5<A, B, C, D, E> {
-    ghost use Rattle.std.specs.Prelude.{⊤};
+    ghost use Rattle.std.specs.Prelude.{⊤, true};
     ghost use Rattle.cbor_model.specs.Readable.{PassesTags};
     ghost use Rattle.cbor_decode_as.specs.Enums.{IsEnum};
+    ghost use Rattle.cbor_de.specs.Calls.{and_reports};
     ghost use Rattle.cbor_de.specs.Forms.{any_of, enum_form, never};
     ghost use Rattle.cbor_described.specs.OneOfs.{either, no_variant, list5};
 
@@ -193,6 +206,10 @@ impl<A: Variant, B: Variant, C: Variant, D: Variant, E: Variant> ReadableParts
     ghost wrong_forms = { any_of enum_form (any_of A.wrong_forms (any_of B.wrong_forms
         (any_of C.wrong_forms
         (any_of D.wrong_forms (any_of E.wrong_forms never))))) };
+
+    ghost reports_faults = { and_reports A.reports_faults (and_reports B.reports_faults
+        (and_reports C.reports_faults (and_reports D.reports_faults
+        (and_reports E.reports_faults true)))) };
 
     ghost asks_memory = { λ keys a r. ⊤ };
 }
@@ -233,9 +250,10 @@ fn one_of5<A: Drop, B: Drop, C: Drop, D: Drop, E: Drop>(
 
 impl<A: Variant, B: Variant, C: Variant, D: Variant, E: Variant, F: Variant> ReadableParts
     for OneOf6<A, B, C, D, E, F> {
-    ghost use Rattle.std.specs.Prelude.{⊤};
+    ghost use Rattle.std.specs.Prelude.{⊤, true};
     ghost use Rattle.cbor_model.specs.Readable.{PassesTags};
     ghost use Rattle.cbor_decode_as.specs.Enums.{IsEnum};
+    ghost use Rattle.cbor_de.specs.Calls.{and_reports};
     ghost use Rattle.cbor_de.specs.Forms.{any_of, enum_form, never};
     ghost use Rattle.cbor_described.specs.OneOfs.{either, no_variant, list6};
 
@@ -251,6 +269,10 @@ impl<A: Variant, B: Variant, C: Variant, D: Variant, E: Variant, F: Variant> Rea
     ghost wrong_forms = { any_of enum_form (any_of A.wrong_forms (any_of B.wrong_forms
         (any_of C.wrong_forms
         (any_of D.wrong_forms (any_of E.wrong_forms (any_of F.wrong_forms never)))))) };
+
+    ghost reports_faults = { and_reports A.reports_faults (and_reports B.reports_faults
+        (and_reports C.reports_faults (and_reports D.reports_faults
+        (and_reports E.reports_faults (and_reports F.reports_faults true))))) };
 
     ghost asks_memory = { λ keys a r. ⊤ };
 }
@@ -304,9 +326,10 @@ impl<
     F: Variant,
     G: Variant,
 > ReadableParts for OneOf7<A, B, C, D, E, F, G> {
-    ghost use Rattle.std.specs.Prelude.{⊤};
+    ghost use Rattle.std.specs.Prelude.{⊤, true};
     ghost use Rattle.cbor_model.specs.Readable.{PassesTags};
     ghost use Rattle.cbor_decode_as.specs.Enums.{IsEnum};
+    ghost use Rattle.cbor_de.specs.Calls.{and_reports};
     ghost use Rattle.cbor_de.specs.Forms.{any_of, enum_form, never};
     ghost use Rattle.cbor_described.specs.OneOfs.{either, no_variant, list7};
 
@@ -324,6 +347,11 @@ impl<
         (any_of C.wrong_forms
         (any_of D.wrong_forms (any_of E.wrong_forms (any_of F.wrong_forms
         (any_of G.wrong_forms never))))))) };
+
+    ghost reports_faults = { and_reports A.reports_faults (and_reports B.reports_faults
+        (and_reports C.reports_faults (and_reports D.reports_faults
+        (and_reports E.reports_faults (and_reports F.reports_faults
+        (and_reports G.reports_faults true)))))) };
 
     ghost asks_memory = { λ keys a r. ⊤ };
 }
@@ -384,9 +412,10 @@ impl<
     G: Variant,
     H: Variant,
 > ReadableParts for OneOf8<A, B, C, D, E, F, G, H> {
-    ghost use Rattle.std.specs.Prelude.{⊤};
+    ghost use Rattle.std.specs.Prelude.{⊤, true};
     ghost use Rattle.cbor_model.specs.Readable.{PassesTags};
     ghost use Rattle.cbor_decode_as.specs.Enums.{IsEnum};
+    ghost use Rattle.cbor_de.specs.Calls.{and_reports};
     ghost use Rattle.cbor_de.specs.Forms.{any_of, enum_form, never};
     ghost use Rattle.cbor_described.specs.OneOfs.{either, no_variant, list8};
 
@@ -405,6 +434,11 @@ impl<
         (any_of C.wrong_forms
         (any_of D.wrong_forms (any_of E.wrong_forms (any_of F.wrong_forms (any_of G.wrong_forms
         (any_of H.wrong_forms never)))))))) };
+
+    ghost reports_faults = { and_reports A.reports_faults (and_reports B.reports_faults
+        (and_reports C.reports_faults (and_reports D.reports_faults
+        (and_reports E.reports_faults (and_reports F.reports_faults
+        (and_reports G.reports_faults (and_reports H.reports_faults true))))))) };
 
     ghost asks_memory = { λ keys a r. ⊤ };
 }

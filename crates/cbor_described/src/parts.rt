@@ -14,6 +14,7 @@ use cbor_parts::{AtMostTwelveParts, FieldKeys, FieldLabels, Labelled, Newtype, S
 /// The parts of a struct, a tuple of its fields or a [`Newtype`] of its one part, or of an enum,
 /// one of its variants.
 pub trait ReadableParts: AtMostTwelveParts {
+    ghost use Rattle.std.specs.Prelude.{Bool, false};
     ghost use Rattle.cbor_parts.specs.Keys.{Keys};
     ghost use Rattle.cbor_model.specs.Raw.{Raw};
     ghost use Rattle.cbor_model.specs.Readable.{Context};
@@ -25,6 +26,9 @@ pub trait ReadableParts: AtMostTwelveParts {
 
     // By which codes an item may be refused for its form, and where.
     ghost wrong_forms: { WrongForms };
+
+    // Whether a refusal reports the fault of the bytes, if it reports one: that of the item.
+    ghost reports_faults: { Bool } = { false };
 
     // For which items memory may be asked, by the same names or labels.
     ghost asks_memory: { Keys → Asks → Raw → Type 0 };
@@ -41,6 +45,8 @@ pub trait ReadParts<'de, R: Read<'de>>: ReadableParts {
             de.old de.new result }
         ensures taken { OnOk result (call.Advances R.source de.old de.new) }
         ensures form { IfErr result (call.MayReport R.source Self.wrong_forms de.old) }
+        ensures fault { IfErr result
+            (call.OwnFault R.source R.refusals Self.reports_faults de.old) }
         ensures memory { IfErr result (call.MemoryFor R.source
             (Self.asks_memory (keys_of keys.now) (asks_for R.refusals R.lends))
             (Self.reads (keys_of keys.now) (context de.old.decoder.formats R.lends)) de.old) }
@@ -49,9 +55,13 @@ pub trait ReadParts<'de, R: Read<'de>>: ReadableParts {
 
 /// A struct is read as its one part.
 impl<T: Readable> ReadableParts for Newtype<T> {
+    ghost use Rattle.cbor_de.specs.Calls.{reports_any};
+
     ghost reads = { λ keys c r p. T.reads c r p.0 };
 
     ghost wrong_forms = { T.wrong_forms };
+
+    ghost reports_faults = { reports_any T.passes_over T.total T.reports_faults };
 
     ghost asks_memory = { λ keys. T.asks_memory };
 }
@@ -78,6 +88,8 @@ where
 
     ghost wrong_forms = { L.Parts.wrong_forms };
 
+    ghost reports_faults = { L.Parts.reports_faults };
+
     ghost asks_memory = { λ keys. L.Parts.asks_memory (labelled_keys keys.names L.labels) };
 }
 
@@ -98,8 +110,9 @@ where
 }
 
 /// As what a struct or an enum is read by its description: as what its parts are, by the names that
-/// the description gives; by which codes an item may be refused for its form; and for which items
-/// memory may be asked. Each type with a [`Schema`] has them, and quotes them.
+/// the description gives; by which codes an item may be refused for its form; whether a refusal
+/// reports the fault of the bytes; and for which items memory may be asked. Each type with a
+/// [`Schema`] has them, and quotes them.
 ///
 /// ```rust
 /// impl Readable for User {
@@ -107,10 +120,13 @@ where
 ///
 ///     ghost wrong_forms = { ⟦<Self as ReadBy<<Self as Schema>::Parts>>⟧.wrong_forms };
 ///
+///     ghost reports_faults = { ⟦<Self as ReadBy<<Self as Schema>::Parts>>⟧.reports_faults };
+///
 ///     ghost asks_memory = { ⟦<Self as ReadBy<<Self as Schema>::Parts>>⟧.asks_memory };
 /// }
 /// ```
 pub trait ReadBy<P>: Sized {
+    ghost use Rattle.std.specs.Prelude.{Bool};
     ghost use Rattle.cbor_model.specs.Raw.{Raw};
     ghost use Rattle.cbor_model.specs.Readable.{Context};
     ghost use Rattle.cbor_read.specs.Source.{Asks};
@@ -120,6 +136,8 @@ pub trait ReadBy<P>: Sized {
 
     ghost wrong_forms: { WrongForms };
 
+    ghost reports_faults: { Bool };
+
     ghost asks_memory: { Asks → Raw → Type 0 };
 }
 
@@ -127,6 +145,8 @@ impl<P: ReadableParts, T: Schema<Parts = P>> ReadBy<P> for T {
     ghost reads = { λ c r x. P.reads (named_keys T.names) c r (T.parts x) };
 
     ghost wrong_forms = { P.wrong_forms };
+
+    ghost reports_faults = { P.reports_faults };
 
     ghost asks_memory = { P.asks_memory (named_keys T.names) };
 }
@@ -149,6 +169,8 @@ where
         de.old de.new result }
     ensures taken { OnOk result (call.Advances R.source de.old de.new) }
     ensures form { IfErr result (call.MayReport R.source T.Parts.wrong_forms de.old) }
+    ensures fault { IfErr result
+        (call.OwnFault R.source R.refusals T.Parts.reports_faults de.old) }
     ensures memory { IfErr result (call.MemoryFor R.source
         (T.Parts.asks_memory (named_keys T.names) (asks_for R.refusals R.lends))
         (λ r x. T.Parts.reads (named_keys T.names) (context de.old.decoder.formats R.lends) r

@@ -13,7 +13,8 @@ use cbor_io::error::Result;
 use cbor_parts::FieldKeys;
 
 impl<A: FieldType> ReadableParts for (A,) {
-    ghost use Rattle.std.specs.Prelude.{[], ◌∷◌};
+    ghost use Rattle.std.specs.Prelude.{[], ◌∷◌, true};
+    ghost use Rattle.cbor_de.specs.Calls.{and_reports, reports_any};
     ghost use Rattle.cbor_de.specs.Forms.{any_of, key_form, never};
     ghost use Rattle.cbor_de.specs.Structs.{IsKeyed, IsMapOf, field_or};
     ghost use Rattle.cbor_de.specs.StructMemory.{AsksForFields, field_then, passed_over};
@@ -23,6 +24,9 @@ impl<A: FieldType> ReadableParts for (A,) {
         r (x.0, tt) };
 
     ghost wrong_forms = { any_of key_form (any_of A.Of.wrong_forms never) };
+
+    ghost reports_faults = { and_reports
+        (reports_any A.Of.passes_over A.Of.total A.Of.reports_faults) true };
 
     ghost asks_memory = { λ keys a. AsksForFields (IsKeyed keys) a
         (field_then (A.Of.asks_memory a) (passed_over a)) };
@@ -44,7 +48,8 @@ where
 }
 
 impl<A: FieldType, B: FieldType> ReadableParts for (A, B) {
-    ghost use Rattle.std.specs.Prelude.{[], ◌∷◌};
+    ghost use Rattle.std.specs.Prelude.{[], ◌∷◌, true};
+    ghost use Rattle.cbor_de.specs.Calls.{and_reports, reports_any};
     ghost use Rattle.cbor_de.specs.Forms.{any_of, key_form, never};
     ghost use Rattle.cbor_de.specs.Structs.{IsKeyed, IsMapOf, field_or};
     ghost use Rattle.cbor_de.specs.StructMemory.{AsksForFields, field_then, passed_over};
@@ -56,6 +61,10 @@ impl<A: FieldType, B: FieldType> ReadableParts for (A, B) {
 
     ghost wrong_forms = { any_of key_form (any_of A.Of.wrong_forms
         (any_of B.Of.wrong_forms never)) };
+
+    ghost reports_faults = { and_reports
+        (reports_any A.Of.passes_over A.Of.total A.Of.reports_faults) (and_reports
+        (reports_any B.Of.passes_over B.Of.total B.Of.reports_faults) true) };
 
     ghost asks_memory = { λ keys a. AsksForFields (IsKeyed keys) a
         (field_then (A.Of.asks_memory a) (field_then (B.Of.asks_memory a) (passed_over a))) };
@@ -78,7 +87,8 @@ where
 }
 
 impl<A: FieldType, B: FieldType, C: FieldType> ReadableParts for (A, B, C) {
-    ghost use Rattle.std.specs.Prelude.{[], ◌∷◌};
+    ghost use Rattle.std.specs.Prelude.{[], ◌∷◌, true};
+    ghost use Rattle.cbor_de.specs.Calls.{and_reports, reports_any};
     ghost use Rattle.cbor_de.specs.Forms.{any_of, key_form, never};
     ghost use Rattle.cbor_de.specs.Structs.{IsKeyed, IsMapOf, field_or};
     ghost use Rattle.cbor_de.specs.StructMemory.{AsksForFields, field_then, passed_over};
@@ -91,6 +101,11 @@ impl<A: FieldType, B: FieldType, C: FieldType> ReadableParts for (A, B, C) {
 
     ghost wrong_forms = { any_of key_form (any_of A.Of.wrong_forms (any_of B.Of.wrong_forms
         (any_of C.Of.wrong_forms never))) };
+
+    ghost reports_faults = { and_reports
+        (reports_any A.Of.passes_over A.Of.total A.Of.reports_faults) (and_reports
+        (reports_any B.Of.passes_over B.Of.total B.Of.reports_faults) (and_reports
+        (reports_any C.Of.passes_over C.Of.total C.Of.reports_faults) true)) };
 
     ghost asks_memory = { λ keys a. AsksForFields (IsKeyed keys) a
         (field_then (A.Of.asks_memory a) (field_then (B.Of.asks_memory a)
@@ -115,7 +130,8 @@ where
 }
 
 impl<A: FieldType, B: FieldType, C: FieldType, D: FieldType> ReadableParts for (A, B, C, D) {
-    ghost use Rattle.std.specs.Prelude.{[], ◌∷◌};
+    ghost use Rattle.std.specs.Prelude.{[], ◌∷◌, true};
+    ghost use Rattle.cbor_de.specs.Calls.{and_reports, reports_any};
     ghost use Rattle.cbor_de.specs.Forms.{any_of, key_form, never};
     ghost use Rattle.cbor_de.specs.Structs.{IsKeyed, IsMapOf, field_or};
     ghost use Rattle.cbor_de.specs.StructMemory.{AsksForFields, field_then, passed_over};
@@ -129,6 +145,12 @@ impl<A: FieldType, B: FieldType, C: FieldType, D: FieldType> ReadableParts for (
 
     ghost wrong_forms = { any_of key_form (any_of A.Of.wrong_forms (any_of B.Of.wrong_forms
         (any_of C.Of.wrong_forms (any_of D.Of.wrong_forms never)))) };
+
+    ghost reports_faults = { and_reports
+        (reports_any A.Of.passes_over A.Of.total A.Of.reports_faults) (and_reports
+        (reports_any B.Of.passes_over B.Of.total B.Of.reports_faults) (and_reports
+        (reports_any C.Of.passes_over C.Of.total C.Of.reports_faults) (and_reports
+        (reports_any D.Of.passes_over D.Of.total D.Of.reports_faults) true))) };
 
     ghost asks_memory = { λ keys a. AsksForFields (IsKeyed keys) a
         (field_then (A.Of.asks_memory a) (field_then (B.Of.asks_memory a)

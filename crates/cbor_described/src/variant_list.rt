@@ -10,6 +10,7 @@ ghost use Rattle.cbor_model.specs.Readable.{PassesTags};
 ghost use Rattle.cbor_parts.specs.Keys.{AreKeysOf, named_keys, keys_of};
 ghost use Rattle.cbor_de.specs.Forms.{MayReportContent, any_of, enum_form};
 ghost use Rattle.cbor_de.specs.Calls as call;
+ghost use Rattle.cbor_described.specs.Contents.{OwnContentFault};
 
 use crate::parts::{ReadParts, ReadableParts};
 use cbor_de::steps::{leave_to, no_part, parts, variant_at_hand, variant_head};
@@ -23,6 +24,7 @@ use cbor_parts::{AtMostEightParts, FieldKeys, FieldNames, Newtype, Struct, Tuple
 
 /// A variant: `()` of no part, [`Newtype`], [`Tuple`] or [`Struct`].
 pub trait Variant: Sized + Drop {
+    ghost use Rattle.std.specs.Prelude.{Bool};
     ghost use Rattle.cbor_model.specs.Readable.{Context};
     ghost use Rattle.cbor_io.specs.declared.error.Error.{Error};
     ghost use Rattle.cbor_decode_as.specs.Enums.{Content};
@@ -34,6 +36,9 @@ pub trait Variant: Sized + Drop {
 
     // By which codes an enum may be refused for the form of this content, and where.
     ghost wrong_forms: { WrongForms };
+
+    // Whether a refusal reports the fault of the bytes, if it reports one: that of the content.
+    ghost reports_faults: { Bool };
 
     // How an identifier alone is refused, if it is.
     ghost alone: { Form → Error → Type 0 };
@@ -64,17 +69,22 @@ pub trait ReadVariant<'de, R: Read<'de>>: Variant {
             (R.source de.old.decoder.source) (R.source de.new.decoder.source) result }
         ensures form { IfErr result (MayReportContent Self.wrong_forms
             (formats_of de.old.decoder.formats) form (R.source de.old.decoder.source)) }
+        ensures fault { IfErr result (OwnContentFault R.refusals Self.reports_faults
+            de.old.decoder.levels form (R.source de.old.decoder.source)) }
         ensures alone { IfErr result (Self.alone form) }
         ensures formats { de.new.decoder.formats ≡ de.old.decoder.formats };
 }
 
 impl Variant for () {
+    ghost use Rattle.std.specs.Prelude.{true};
     ghost use Rattle.cbor_decode_as.specs.Enums.{IsNothing};
     ghost use Rattle.cbor_de.specs.Forms.{unit_form};
 
     ghost means = { λ c content u. IsNothing content u };
 
     ghost wrong_forms = { unit_form };
+
+    ghost reports_faults = { true };
 
     ghost alone = { λ form e. Unit {0} };
 
@@ -97,11 +107,14 @@ impl<T: Readable> Variant for Newtype<T> {
     ghost use Rattle.std.specs.Prelude.{codes};
     ghost use Rattle.cbor_decode_as.specs.Enums.{IsPart};
     ghost use Rattle.cbor_decode_as.specs.Variants.{ReportsAlone, alone_text};
+    ghost use Rattle.cbor_de.specs.Calls.{reports_any};
     ghost use Rattle.cbor_de.specs.Forms.{any_of, part_form};
 
     ghost means = { λ c content y. IsPart (T.reads c) content y.0 };
 
     ghost wrong_forms = { any_of part_form T.wrong_forms };
+
+    ghost reports_faults = { reports_any T.passes_over T.total T.reports_faults };
 
     ghost alone = { ReportsAlone (alone_text (codes "newtype")) };
 
@@ -139,6 +152,8 @@ impl<F: ReadableTuple + AtMostEightParts> Variant for Tuple<F> {
 
     ghost wrong_forms = { F.wrong_forms };
 
+    ghost reports_faults = { F.reports_faults };
+
     ghost alone = { ReportsAlone (alone_text (codes "tuple")) };
 }
 
@@ -164,6 +179,8 @@ where
     ghost reads = { λ c r y. N.Parts.reads (named_keys N.names) c r y.0 };
 
     ghost wrong_forms = { N.Parts.wrong_forms };
+
+    ghost reports_faults = { N.Parts.reports_faults };
 
     ghost asks_memory = { N.Parts.asks_memory (named_keys N.names) };
 }
@@ -196,6 +213,8 @@ where
     ghost means = { λ c content y. IsPart (N.Parts.reads (named_keys N.names) c) content y.0 };
 
     ghost wrong_forms = { any_of part_form N.Parts.wrong_forms };
+
+    ghost reports_faults = { N.Parts.reports_faults };
 
     ghost alone = { ReportsAlone (alone_text (codes "struct")) };
 }
@@ -232,7 +251,7 @@ pub enum Never {}
 
 // The variants of an enum: `Never`, or `OneOf` a variant and the list of the others.
 pub(crate) trait VariantList: Sized + Drop {
-    ghost use Rattle.std.specs.Prelude.{ℕ};
+    ghost use Rattle.std.specs.Prelude.{ℕ, Bool};
     ghost use Rattle.cbor_model.specs.Readable.{Context};
     ghost use Rattle.cbor_decode_as.specs.Enums.{Content};
     ghost use Rattle.cbor_de.specs.Forms.{WrongForms};
@@ -242,6 +261,9 @@ pub(crate) trait VariantList: Sized + Drop {
 
     // By which codes an enum may be refused for the form of the content of one of them, and where.
     ghost wrong_forms: { WrongForms };
+
+    // Whether the refusals of each report the faults of the bytes.
+    ghost reports_faults: { Bool };
 
     // Reads the content of the i-th variant where it is at hand, without room for an error. Else
     // nothing is taken.
@@ -263,15 +285,20 @@ pub(crate) trait ReadVariants<'de, R: Read<'de>>: VariantList {
             (R.source de.old.decoder.source) (R.source de.new.decoder.source) result }
         ensures form { IfErr result (MayReportContent Self.wrong_forms
             (formats_of de.old.decoder.formats) form (R.source de.old.decoder.source)) }
+        ensures fault { IfErr result (OwnContentFault R.refusals Self.reports_faults
+            de.old.decoder.levels form (R.source de.old.decoder.source)) }
         ensures formats { de.new.decoder.formats ≡ de.old.decoder.formats };
 }
 
 impl VariantList for Never {
+    ghost use Rattle.std.specs.Prelude.{true};
     ghost use Rattle.cbor_de.specs.Forms.{never};
 
     ghost means = { λ c i content x. ⊥ };
 
     ghost wrong_forms = { never };
+
+    ghost reports_faults = { true };
 
     #[inline(always)]
     fn variant_at_hand<R: Source>(
@@ -290,12 +317,15 @@ impl<'de, R: Read<'de>> ReadVariants<'de, R> for Never {
 }
 
 impl<V: Variant, Vs: VariantList> VariantList for OneOf<V, Vs> {
+    ghost use Rattle.cbor_de.specs.Calls.{and_reports};
     ghost use Rattle.cbor_de.specs.Forms.{any_of};
     ghost use Rattle.cbor_described.specs.OneOfs.{either};
 
     ghost means = { λ c. either (V.means c) (Vs.means c) };
 
     ghost wrong_forms = { any_of V.wrong_forms Vs.wrong_forms };
+
+    ghost reports_faults = { and_reports V.reports_faults Vs.reports_faults };
 
     #[inline(always)]
     fn variant_at_hand<R: Source>(
@@ -342,6 +372,7 @@ pub(crate) fn read_variants<'de, R: Read<'de>, E: ReadVariants<'de, R>>(
         (E.means (context de.old.decoder.formats R.lends)))) de.old de.new result }
     ensures taken { OnOk result (call.Advances R.source de.old de.new) }
     ensures form { IfErr result (call.MayReport R.source (any_of enum_form E.wrong_forms) de.old) }
+    ensures fault { IfErr result (call.OwnFault R.source R.refusals E.reports_faults de.old) }
     ensures settings { SameSettings de.old.decoder de.new.decoder }
 {
     let outer = de.levels_left();
@@ -361,6 +392,7 @@ fn variants_within<'de, R: Read<'de>, E: ReadVariants<'de, R>>(
         (E.means (context de.old.decoder.formats R.lends)))) de.old de.new result }
     ensures taken { OnOk result (call.Advances R.source de.old de.new) }
     ensures form { IfErr result (call.MayReport R.source (any_of enum_form E.wrong_forms) de.old) }
+    ensures fault { IfErr result (call.OwnFault R.source R.refusals E.reports_faults de.old) }
     ensures formats { de.new.decoder.formats ≡ de.old.decoder.formats }
 {
     match variant_at_hand(de, names) {
@@ -381,6 +413,8 @@ fn content<'de, R: Read<'de>, E: ReadVariants<'de, R>>(
         (R.source de.old.decoder.source) (R.source de.new.decoder.source) result }
     ensures form { IfErr result (MayReportContent E.wrong_forms
         (formats_of de.old.decoder.formats) form (R.source de.old.decoder.source)) }
+    ensures fault { IfErr result (OwnContentFault R.refusals E.reports_faults
+        de.old.decoder.levels form (R.source de.old.decoder.source)) }
     ensures formats { de.new.decoder.formats ≡ de.old.decoder.formats }
 {
     match E::variant_at_hand(de, form, i) {
@@ -400,6 +434,7 @@ fn variants_slow<'de, R: Read<'de>, E: ReadVariants<'de, R>>(
         (E.means (context de.old.decoder.formats R.lends)))) de.old de.new result }
     ensures taken { OnOk result (call.Advances R.source de.old de.new) }
     ensures form { IfErr result (call.MayReport R.source (any_of enum_form E.wrong_forms) de.old) }
+    ensures fault { IfErr result (call.OwnFault R.source R.refusals E.reports_faults de.old) }
     ensures formats { de.new.decoder.formats ≡ de.old.decoder.formats }
 {
     let (index, form) = variant_head(de, names)?;

@@ -15,3 +15,7 @@ pub use Rattle.cbor_de.proofs.parts.Enums.{has_items, items_read, items_made}
 pub use Rattle.cbor_de.proofs.parts.Enums.{part_read, part_unread}
 -- the end
 pub use Rattle.cbor_de.proofs.parts.Enums.{parts_left, parts_read}
+-- the fault that the refusal of a content reports is the enum's
+pub use Rattle.cbor_decode_as.proofs.facts.Enums.{content_fault, parts_content}
+-- that of the one part, where the refusals of its type report the faults of the bytes
+pub use Rattle.cbor_de.proofs.parts.EnumFaults.{part_any}

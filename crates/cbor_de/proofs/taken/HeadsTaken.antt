@@ -151,11 +151,11 @@ module _ (w : HeadWidth) (n : ℕ) (rest : List ℕ) (fits : n < limit w) where
 
 -- ---- all heads
 
-fault_read : {A : Type 0} (read : Reads A) (x : A × List ℕ) (f : Fault) → read ≡ Err f → read ≡ Ok x → ⊥
+pub fault_read : {A : Type 0} (read : Reads A) (x : A × List ℕ) (f : Fault) → read ≡ Err f → read ≡ Ok x → ⊥
 fault_read (Ok y) x f is other = absurd cc
 fault_read (Err g) x f is other = absurd cc
 
-tag_or_other : (h : Head) → ((n : ℕ) × (h ≡ head.Tag n)) ⊎ (head_kind h ≡ kind.tag → ⊥)
+pub tag_or_other : (h : Head) → ((n : ℕ) × (h ≡ head.Tag n)) ⊎ (head_kind h ≡ kind.tag → ⊥)
 tag_or_other (head.Unsigned n) = inr (λ e. cc)
 tag_or_other (head.Negative n) = inr (λ e. cc)
 tag_or_other (head.Bytes n) = inr (λ e. cc)

@@ -7,9 +7,13 @@ use cbor_read::Read;
 
 /// As what it holds. The box takes memory once that is read.
 impl<T: Readable> Readable for Box<T> {
+    ghost use Rattle.cbor_de.specs.Calls.{reports_any};
+
     ghost reads = { λ c r b. T.reads c r b.value };
 
     ghost wrong_forms = { T.wrong_forms };
+
+    ghost reports_faults = { reports_any T.passes_over T.total T.reports_faults };
 }
 
 impl<'de, R: Read<'de>, T: Deserialize<'de, R>> Deserialize<'de, R> for Box<T> {

@@ -11,12 +11,17 @@ use std::collections::BTreeMap;
 impl<K: Readable + Ord, V: Readable> Readable for BTreeMap<K, V> {
     ghost use Rattle.cbor_model.specs.Readable.{PassesTags};
     ghost use Rattle.cbor_decode_as.specs.Maps.{AsMap, AreEntries};
+    ghost use Rattle.cbor_de.specs.Calls.{and_reports, reports_any};
     ghost use Rattle.cbor_de.specs.Forms.{any_of, key_form};
 
     ghost reads = { λ c. PassesTags (AsMap
         (λ rs m. AreEntries K.cmp (K.reads c) (V.reads c) rs m.entries)) };
 
     ghost wrong_forms = { any_of (any_of key_form K.wrong_forms) V.wrong_forms };
+
+    ghost reports_faults = { and_reports
+        (reports_any K.Readable.passes_over K.Readable.total K.Readable.reports_faults)
+        (reports_any V.passes_over V.total V.reports_faults) };
 }
 
 impl<'de, R: Read<'de>, K: Deserialize<'de, R> + Ord, V: Deserialize<'de, R>> Deserialize<'de, R>

@@ -10,6 +10,7 @@ use cbor_read::{Read, Source};
 impl<T: Readable> Readable for Option<T> {
     ghost use Rattle.cbor_model.specs.Readable.{IsOptional};
     ghost use Rattle.cbor_decode_as.specs.Nulls.{UnlessNull};
+    ghost use Rattle.cbor_de.specs.Calls.{reports_any};
 
     ghost reads = { λ c. IsOptional (T.reads c) };
 
@@ -18,6 +19,8 @@ impl<T: Readable> Readable for Option<T> {
     ghost wrong_forms = { T.wrong_forms };
 
     ghost passes_over = { T.passes_over };
+
+    ghost reports_faults = { reports_any T.passes_over T.total T.reports_faults };
 
     #[inline(always)]
     fn at_hand<R: Source>(de: &mut Deserializer<R>) -> Option<Option<T>> {

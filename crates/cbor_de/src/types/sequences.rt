@@ -19,10 +19,13 @@ use std::alloc::AllocError;
 impl<T: Readable> Readable for Vec<T> {
     ghost use Rattle.cbor_model.specs.Readable.{PassesTags};
     ghost use Rattle.cbor_decode_as.specs.Arrays.{AsArray, AreRead};
+    ghost use Rattle.cbor_de.specs.Calls.{reports_any};
 
     ghost reads = { λ c. PassesTags (AsArray (λ rs v. AreRead (T.reads c) rs v.items)) };
 
     ghost wrong_forms = { T.wrong_forms };
+
+    ghost reports_faults = { reports_any T.passes_over T.total T.reports_faults };
 }
 
 impl<'de, R: Read<'de>, T: Deserialize<'de, R>> Deserialize<'de, R> for Vec<T> {
@@ -41,6 +44,8 @@ pub(super) fn array_items<'de, T: Deserialize<'de, R>, R: Read<'de>>(
         (PassesTags (AsArray (AreRead (T.reads (context de.old.decoder.formats R.lends)))))
         de.old de.new (items_in result) }
     ensures taken { OnOk result (call.Advances R.source de.old de.new) }
+    ensures own_fault { IfErr result (call.OwnFault R.source R.refusals
+        (call.reports_any T.passes_over T.total T.reports_faults) de.old) }
     ensures form { IfErr result (call.MayReport R.source T.wrong_forms de.old) }
     ensures settings { SameSettings de.old.decoder de.new.decoder }
 {
@@ -91,6 +96,8 @@ fn exactly<'de, T: Deserialize<'de, R>, R: Read<'de>>(
         (PassesTags (AsArray (AreExactly (T.reads (context de.old.decoder.formats R.lends)) n)))
         de.old de.new (items_in result) }
     ensures taken { OnOk result (call.Advances R.source de.old de.new) }
+    ensures own_fault { IfErr result (call.OwnFault R.source R.refusals
+        (call.reports_any T.passes_over T.total T.reports_faults) de.old) }
     ensures form { IfErr result (call.MayReport R.source T.wrong_forms de.old) }
     ensures count { IfOk result (λ v. vec_len v ≡ n) }
     ensures settings { SameSettings de.old.decoder de.new.decoder }
@@ -112,10 +119,13 @@ fn exactly<'de, T: Deserialize<'de, R>, R: Read<'de>>(
 impl<T: Readable, const N: usize> Readable for [T; N] {
     ghost use Rattle.cbor_model.specs.Readable.{PassesTags};
     ghost use Rattle.cbor_decode_as.specs.Arrays.{AsArray, AreExactly};
+    ghost use Rattle.cbor_de.specs.Calls.{reports_any};
 
     ghost reads = { λ c. PassesTags (AsArray (AreExactly (T.reads c) N)) };
 
     ghost wrong_forms = { T.wrong_forms };
+
+    ghost reports_faults = { reports_any T.passes_over T.total T.reports_faults };
 }
 
 impl<'de, R: Read<'de>, T: Deserialize<'de, R>, const N: usize> Deserialize<'de, R> for [T; N] {

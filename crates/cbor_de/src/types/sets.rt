@@ -16,11 +16,14 @@ use std::collections::BTreeSet;
 impl<T: Readable + Ord> Readable for BTreeSet<T> {
     ghost use Rattle.cbor_model.specs.Readable.{PassesTags};
     ghost use Rattle.cbor_decode_as.specs.Arrays.{AsArray};
+    ghost use Rattle.cbor_de.specs.Calls.{reports_any};
     ghost use Rattle.cbor_de.specs.Sets.{AreKeys};
 
     ghost reads = { λ c. PassesTags (AsArray (λ rs s. AreKeys T.cmp (T.reads c) rs s.keys)) };
 
     ghost wrong_forms = { T.wrong_forms };
+
+    ghost reports_faults = { reports_any T.passes_over T.Readable.total T.reports_faults };
 }
 
 impl<'de, R: Read<'de>, T: Deserialize<'de, R> + Ord> Deserialize<'de, R> for BTreeSet<T> {

@@ -8,6 +8,8 @@ use cbor_read::Read;
 
 /// An array of exactly one item.
 impl<A: Readable> Readable for (A,) {
+    ghost use Rattle.std.specs.Prelude.{true};
+    ghost use Rattle.cbor_de.specs.Calls.{and_reports, reports_any};
     ghost use Rattle.cbor_de.specs.Forms.{any_of, never};
     ghost use Rattle.cbor_model.specs.Readable.{PassesTags};
     ghost use Rattle.cbor_decode_as.specs.Arrays.{AsArray, FirstThen, AreNone};
@@ -15,6 +17,9 @@ impl<A: Readable> Readable for (A,) {
     ghost reads = { λ c. PassesTags (AsArray (λ rs t. FirstThen (A.reads c) t.0 AreNone rs)) };
 
     ghost wrong_forms = { any_of A.wrong_forms never };
+
+    ghost reports_faults = { and_reports (reports_any A.passes_over A.total A.reports_faults)
+        true };
 }
 
 impl<'de, R: Read<'de>, A: Deserialize<'de, R>> Deserialize<'de, R> for (A,) {
@@ -34,6 +39,8 @@ impl<A: DeserializeOwned> DeserializeOwned for (A,) {
 
 /// An array of exactly two items.
 impl<A: Readable, B: Readable> Readable for (A, B) {
+    ghost use Rattle.std.specs.Prelude.{true};
+    ghost use Rattle.cbor_de.specs.Calls.{and_reports, reports_any};
     ghost use Rattle.cbor_de.specs.Forms.{any_of, never};
     ghost use Rattle.cbor_model.specs.Readable.{PassesTags};
     ghost use Rattle.cbor_decode_as.specs.Arrays.{AsArray, FirstThen, AreNone};
@@ -42,6 +49,10 @@ impl<A: Readable, B: Readable> Readable for (A, B) {
         (FirstThen (B.reads c) t.1 AreNone) rs)) };
 
     ghost wrong_forms = { any_of A.wrong_forms (any_of B.wrong_forms never) };
+
+    ghost reports_faults = { and_reports (reports_any A.passes_over A.total A.reports_faults)
+        (and_reports (reports_any B.passes_over B.total B.reports_faults)
+        true) };
 }
 
 impl<'de, R: Read<'de>, A: Deserialize<'de, R>, B: Deserialize<'de, R>> Deserialize<'de, R>
@@ -63,6 +74,8 @@ impl<A: DeserializeOwned, B: DeserializeOwned> DeserializeOwned for (A, B) {
 
 /// An array of exactly three items.
 impl<A: Readable, B: Readable, C: Readable> Readable for (A, B, C) {
+    ghost use Rattle.std.specs.Prelude.{true};
+    ghost use Rattle.cbor_de.specs.Calls.{and_reports, reports_any};
     ghost use Rattle.cbor_de.specs.Forms.{any_of, never};
     ghost use Rattle.cbor_model.specs.Readable.{PassesTags};
     ghost use Rattle.cbor_decode_as.specs.Arrays.{AsArray, FirstThen, AreNone};
@@ -73,6 +86,11 @@ impl<A: Readable, B: Readable, C: Readable> Readable for (A, B, C) {
 
     ghost wrong_forms = { any_of A.wrong_forms (any_of B.wrong_forms
         (any_of C.wrong_forms never)) };
+
+    ghost reports_faults = { and_reports (reports_any A.passes_over A.total A.reports_faults)
+        (and_reports (reports_any B.passes_over B.total B.reports_faults)
+        (and_reports (reports_any C.passes_over C.total C.reports_faults)
+        true)) };
 }
 
 impl<
@@ -100,6 +118,8 @@ impl<A: DeserializeOwned, B: DeserializeOwned, C: DeserializeOwned> DeserializeO
 
 /// An array of exactly four items.
 impl<A: Readable, B: Readable, C: Readable, D: Readable> Readable for (A, B, C, D) {
+    ghost use Rattle.std.specs.Prelude.{true};
+    ghost use Rattle.cbor_de.specs.Calls.{and_reports, reports_any};
     ghost use Rattle.cbor_de.specs.Forms.{any_of, never};
     ghost use Rattle.cbor_model.specs.Readable.{PassesTags};
     ghost use Rattle.cbor_decode_as.specs.Arrays.{AsArray, FirstThen, AreNone};
@@ -111,6 +131,12 @@ impl<A: Readable, B: Readable, C: Readable, D: Readable> Readable for (A, B, C, 
 
     ghost wrong_forms = { any_of A.wrong_forms (any_of B.wrong_forms (any_of C.wrong_forms
         (any_of D.wrong_forms never))) };
+
+    ghost reports_faults = { and_reports (reports_any A.passes_over A.total A.reports_faults)
+        (and_reports (reports_any B.passes_over B.total B.reports_faults)
+        (and_reports (reports_any C.passes_over C.total C.reports_faults)
+        (and_reports (reports_any D.passes_over D.total D.reports_faults)
+        true))) };
 }
 
 impl<
@@ -145,6 +171,8 @@ impl<
 
 /// An array of exactly five items.
 impl<A: Readable, B: Readable, C: Readable, D: Readable, E: Readable> Readable for (A, B, C, D, E) {
+    ghost use Rattle.std.specs.Prelude.{true};
+    ghost use Rattle.cbor_de.specs.Calls.{and_reports, reports_any};
     ghost use Rattle.cbor_de.specs.Forms.{any_of, never};
     ghost use Rattle.cbor_model.specs.Readable.{PassesTags};
     ghost use Rattle.cbor_decode_as.specs.Arrays.{AsArray, FirstThen, AreNone};
@@ -157,6 +185,13 @@ impl<A: Readable, B: Readable, C: Readable, D: Readable, E: Readable> Readable f
 
     ghost wrong_forms = { any_of A.wrong_forms (any_of B.wrong_forms (any_of C.wrong_forms
         (any_of D.wrong_forms (any_of E.wrong_forms never)))) };
+
+    ghost reports_faults = { and_reports (reports_any A.passes_over A.total A.reports_faults)
+        (and_reports (reports_any B.passes_over B.total B.reports_faults)
+        (and_reports (reports_any C.passes_over C.total C.reports_faults)
+        (and_reports (reports_any D.passes_over D.total D.reports_faults)
+        (and_reports (reports_any E.passes_over E.total E.reports_faults)
+        true)))) };
 }
 
 impl<
@@ -195,6 +230,8 @@ impl<
 /// An array of exactly six items.
 impl<A: Readable, B: Readable, C: Readable, D: Readable, E: Readable, F: Readable> Readable
     for (A, B, C, D, E, F) {
+    ghost use Rattle.std.specs.Prelude.{true};
+    ghost use Rattle.cbor_de.specs.Calls.{and_reports, reports_any};
     ghost use Rattle.cbor_de.specs.Forms.{any_of, never};
     ghost use Rattle.cbor_model.specs.Readable.{PassesTags};
     ghost use Rattle.cbor_decode_as.specs.Arrays.{AsArray, FirstThen, AreNone};
@@ -208,6 +245,14 @@ impl<A: Readable, B: Readable, C: Readable, D: Readable, E: Readable, F: Readabl
 
     ghost wrong_forms = { any_of A.wrong_forms (any_of B.wrong_forms (any_of C.wrong_forms
         (any_of D.wrong_forms (any_of E.wrong_forms (any_of F.wrong_forms never))))) };
+
+    ghost reports_faults = { and_reports (reports_any A.passes_over A.total A.reports_faults)
+        (and_reports (reports_any B.passes_over B.total B.reports_faults)
+        (and_reports (reports_any C.passes_over C.total C.reports_faults)
+        (and_reports (reports_any D.passes_over D.total D.reports_faults)
+        (and_reports (reports_any E.passes_over E.total E.reports_faults)
+        (and_reports (reports_any F.passes_over F.total F.reports_faults)
+        true))))) };
 }
 
 impl<
@@ -256,6 +301,8 @@ impl<
     F: Readable,
     G: Readable,
 > Readable for (A, B, C, D, E, F, G) {
+    ghost use Rattle.std.specs.Prelude.{true};
+    ghost use Rattle.cbor_de.specs.Calls.{and_reports, reports_any};
     ghost use Rattle.cbor_de.specs.Forms.{any_of, never};
     ghost use Rattle.cbor_model.specs.Readable.{PassesTags};
     ghost use Rattle.cbor_decode_as.specs.Arrays.{AsArray, FirstThen, AreNone};
@@ -271,6 +318,15 @@ impl<
     ghost wrong_forms = { any_of A.wrong_forms (any_of B.wrong_forms (any_of C.wrong_forms
         (any_of D.wrong_forms (any_of E.wrong_forms (any_of F.wrong_forms
         (any_of G.wrong_forms never)))))) };
+
+    ghost reports_faults = { and_reports (reports_any A.passes_over A.total A.reports_faults)
+        (and_reports (reports_any B.passes_over B.total B.reports_faults)
+        (and_reports (reports_any C.passes_over C.total C.reports_faults)
+        (and_reports (reports_any D.passes_over D.total D.reports_faults)
+        (and_reports (reports_any E.passes_over E.total E.reports_faults)
+        (and_reports (reports_any F.passes_over F.total F.reports_faults)
+        (and_reports (reports_any G.passes_over G.total G.reports_faults)
+        true)))))) };
 }
 
 impl<
@@ -324,6 +380,8 @@ impl<
     G: Readable,
     H: Readable,
 > Readable for (A, B, C, D, E, F, G, H) {
+    ghost use Rattle.std.specs.Prelude.{true};
+    ghost use Rattle.cbor_de.specs.Calls.{and_reports, reports_any};
     ghost use Rattle.cbor_de.specs.Forms.{any_of, never};
     ghost use Rattle.cbor_model.specs.Readable.{PassesTags};
     ghost use Rattle.cbor_decode_as.specs.Arrays.{AsArray, FirstThen, AreNone};
@@ -340,6 +398,16 @@ impl<
     ghost wrong_forms = { any_of A.wrong_forms (any_of B.wrong_forms (any_of C.wrong_forms
         (any_of D.wrong_forms (any_of E.wrong_forms (any_of F.wrong_forms (any_of G.wrong_forms
         (any_of H.wrong_forms never))))))) };
+
+    ghost reports_faults = { and_reports (reports_any A.passes_over A.total A.reports_faults)
+        (and_reports (reports_any B.passes_over B.total B.reports_faults)
+        (and_reports (reports_any C.passes_over C.total C.reports_faults)
+        (and_reports (reports_any D.passes_over D.total D.reports_faults)
+        (and_reports (reports_any E.passes_over E.total E.reports_faults)
+        (and_reports (reports_any F.passes_over F.total F.reports_faults)
+        (and_reports (reports_any G.passes_over G.total G.reports_faults)
+        (and_reports (reports_any H.passes_over H.total H.reports_faults)
+        true))))))) };
 }
 
 impl<

@@ -3,14 +3,16 @@ use Rattle.cbor_model.specs.Acceptable.{max_depth}
 use Rattle.cbor_model.specs.Formats.{all_formats}
 use Rattle.cbor_read.specs.Source.{Input, start_of_reader, reader_refusals}
 use Rattle.cbor_decode.specs.Gives.{Reports}
-use Rattle.cbor_decode_as.specs.Takes.{MemoryFor}
-use Rattle.cbor_de.specs.Whole.{ReadsAll, ReportsWhole, from_reader_context, from_reader_asks}
+use Rattle.cbor_decode_as.specs.Takes.{MemoryFor, WhereTotal}
+use Rattle.cbor_de.specs.Whole.{ReadsAll, ReportsWhole, from_reader_context, from_reader_asks, WholeFault}
 use Rattle.cbor_de.proofs.refusals.Every.{every_or_fault}
 use Rattle.cbor_de.proofs.refusals.Faults.{fails_or_faults}
 use Rattle.cbor_de.proofs.refusals.PassedOver.{passed_over_by_reader}
 use Rattle.cbor_de.proofs.inputs.Inputs.{found, accepted_or_fault, asked_or_fault}
 use Rattle.cbor_de.proofs.refusals.FirstRefusals.{first_from_reader}
 use Rattle.cbor_de.specs.Forms.{MayReport}
+use Rattle.cbor_de.specs.Calls.{reports_any}
+use Rattle.cbor_de.proofs.refusals.OwnFaults.{own_first}
 use Rattle.cbor_de.proofs.from.from_reader.Goals as goal
 
 pub returns-clause-found : goal.returns-clause-found
@@ -64,3 +66,12 @@ returns-clause-memory g c = λ bs gave x spelt.
 pub returns-clause-form : goal.returns-clause-form
 returns-clause-form g c =
     subst (λ (s : Input). IfErr c.read_all.result (MayReport g.T.Readable.wrong_forms all_formats s)) c.inline.ensures c.read_all.ensures.form
+
+pub returns-clause-own_fault : goal.returns-clause-own_fault
+returns-clause-own_fault g c = λ bs gave.
+    let s = start_of_reader (g.R.Read.remaining c.args.reader) in
+    let reports : Reports s bs = record { is = gave.reported; short = omega (arith, gave.short) } in
+    let t = g.T.Readable in
+    let b = reports_any t.passes_over t.total t.reports_faults in
+    let given = subst (λ (s : Input). IfErr c.read_all.result (λ e. WhereTotal b (WholeFault reader_refusals max_depth s e))) c.inline.ensures c.read_all.ensures.own_fault in
+    own_first reader_refusals b s bs reports refl gave.are_bytes c.read_all.result given

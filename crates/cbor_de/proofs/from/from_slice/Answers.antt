@@ -4,14 +4,16 @@ use Rattle.cbor_model.specs.Formats.{all_formats}
 use Rattle.cbor_model.specs.Raw.{AreBytes}
 use Rattle.cbor_read.specs.Source.{Input, start_of_slice, slice_refusals}
 use Rattle.cbor_decode.specs.Gives.{Reports}
-use Rattle.cbor_decode_as.specs.Takes.{MemoryFor}
-use Rattle.cbor_de.specs.Whole.{ReadsAll, ReportsWhole, from_slice_context, from_slice_asks}
+use Rattle.cbor_decode_as.specs.Takes.{MemoryFor, WhereTotal}
+use Rattle.cbor_de.specs.Whole.{ReadsAll, ReportsWhole, from_slice_context, from_slice_asks, WholeFault}
 use Rattle.cbor_de.proofs.refusals.Every.{every}
 use Rattle.cbor_de.proofs.refusals.Faults.{fails}
 use Rattle.cbor_de.proofs.refusals.PassedOver.{passed_over}
 use Rattle.cbor_de.proofs.inputs.Inputs.{found, accepted, asked}
 use Rattle.cbor_de.proofs.refusals.FirstRefusals.{first}
 use Rattle.cbor_de.specs.Forms.{MayReport}
+use Rattle.cbor_de.specs.Calls.{reports_any}
+use Rattle.cbor_de.proofs.refusals.OwnFaults.{own_first}
 use Rattle.cbor_de.proofs.from.from_slice.Goals as goal
 
 pub returns-clause-found : goal.returns-clause-found
@@ -75,3 +77,13 @@ returns-clause-memory g c = λ x spelt.
 pub returns-clause-form : goal.returns-clause-form
 returns-clause-form g c =
     subst (λ (s : Input). IfErr c.read_all.result (MayReport g.T.Readable.wrong_forms all_formats s)) c.new.ensures c.read_all.ensures.form
+
+pub returns-clause-own_fault : goal.returns-clause-own_fault
+returns-clause-own_fault g c =
+    let bs = c.args.slice.now in
+    let s = start_of_slice bs None in
+    let reports : Reports s bs = record { is = refl; short = omega arith } in
+    let t = g.T.Readable in
+    let b = reports_any t.passes_over t.total t.reports_faults in
+    let given = subst (λ (s : Input). IfErr c.read_all.result (λ e. WhereTotal b (WholeFault slice_refusals max_depth s e))) c.new.ensures c.read_all.ensures.own_fault in
+    own_first slice_refusals b s bs reports refl (λ i. omega (arith, c.type_inv.slice i)) c.read_all.result given

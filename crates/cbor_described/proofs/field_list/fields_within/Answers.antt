@@ -14,7 +14,7 @@ use Rattle.cbor_described.proofs.FieldLists.{unread, begins_with, value_in, valu
 use Rattle.cbor_de.specs.Forms.{MayReport, any_of, key_form, never}
 use Rattle.cbor_decode.proofs.facts.Steps.{advances_some}
 use Rattle.cbor_de.proofs.facts.Forms.{key_in_map, later_in, of_left, took_then}
-use Rattle.std.proofs.Common.{ℕ, List, Some, true, false, sym}
+use Rattle.std.proofs.Common.{ℕ, List, Some, sym}
 use Rattle.cbor_model.specs.Reader.{item_at}
 use Rattle.cbor_read.specs.Source.{asks_for}
 use Rattle.cbor_decode.specs.Gives.{Limits}
@@ -25,6 +25,13 @@ use Rattle.cbor_de.specs.StructMemory.{AsksForValue}
 use Rattle.cbor_de.specs.declared.field.Field.{Field}
 use Rattle.cbor_de.proofs.facts.Structs.{gathered_twice, gathered_value, head_asked, key_asked, missing_asked, value_asked}
 use Rattle.cbor_described.proofs.FieldLists.{FieldAsks, field_asks, memory_from, value_asks}
+use Rattle.cbor_decode.specs.declared.head.Head.TheVariants as head
+use Rattle.cbor_decode_as.specs.Takes.{ItemFault, WhereTotal, any_item}
+use Rattle.cbor_decode_as.proofs.facts.Refusals.{always}
+use Rattle.cbor_described.proofs.FieldFaults as fault
+use Rattle.cbor_de.proofs.facts.Faults.{beginning_fault, said_if_any}
+use Rattle.cbor_de.proofs.facts.MapFaults.{end_told, item_passes, key_fault, map_behind}
+use Rattle.cbor_de.proofs.facts.MapFaults.{pair_goes_on, value_told}
 use Rattle.cbor_described.proofs.field_list.fields_within.Goals as goal
 
 -- ---- the map's head
@@ -46,6 +53,7 @@ fields-init g c =
       formats = c.in_ok-remaining.ensures.formats;
       advances = c.in_ok-remaining.ensures.taken;
       so_far = begins_with (IsKeyed (keys_of c.args.keys.now)) (g.F.FieldList.fields k) _ (c.none-held.ensures k) c.in_ok-remaining.ensures.read c.in_ok-remaining.ensures.formats;
+      fault = map_behind c.args.de.now.decoder.levels c.map_head.new.de.decoder.levels _ _ c.in_ok-remaining.remaining c.in_ok-remaining.ensures.opened;
     }
 
 -- ---- the next key
@@ -80,6 +88,7 @@ fields-preserved-then-take_at_hand g c =
       formats = done.settings.formats ∙ next.settings.formats ∙ i.formats;
       advances = record { further = omega (arith, named.further, done.forward); counted = named.counted };
       so_far = value_in keyed (fields c.args.de.now.decoder.formats) key c.in-Known.i c.in-Known.is (keyed_one keys) done.settings.formats done.settings.levels refl (slots c.args.de.now.decoder.formats c.take_at_hand.new.held) taken;
+      fault = pair_goes_on keyed c.args.de.now.decoder.levels c.fields.de.decoder.levels c.fields.remaining i.fault (formats_of c.fields.de.decoder.formats) c.in_ok-field.field-0 c.next_key.new.remaining next.read c.in-Some.field c.in-Some.is next.settings.levels done.settings.levels (fault.field_passes (formats_of now.formats) now.levels (fields now.formats) c.in-Known.i (slots now.formats c.fields.held) (slots now.formats c.take_at_hand.new.held) _ _ read);
     }
 
 pub fields-preserved-in-Continue-branch-4 : goal.fields-preserved-in-Continue-branch-4
@@ -105,6 +114,7 @@ fields-preserved-in-Continue-branch-4 g c =
       formats = done.settings.formats ∙ none.settings.formats ∙ next.settings.formats ∙ i.formats;
       advances = record { further = omega (arith, named.further, none.forward, done.forward); counted = named.counted };
       so_far = value_in keyed (fields c.args.de.now.decoder.formats) key c.in-Known.i c.in-Known.is (keyed_one keys) (done.settings.formats ∙ none.settings.formats) (done.settings.levels ∙ none.settings.levels) refl (slots c.args.de.now.decoder.formats c.take.new.held) taken;
+      fault = pair_goes_on keyed c.args.de.now.decoder.levels c.fields.de.decoder.levels c.fields.remaining i.fault (formats_of c.fields.de.decoder.formats) c.in_ok-field.field-0 c.next_key.new.remaining next.read c.in-Some.field c.in-Some.is next.settings.levels (done.settings.levels ∙ none.settings.levels) (fault.field_passes (formats_of now.formats) now.levels (fields now.formats) c.in-Known.i (slots now.formats c.fields.held) (slots now.formats c.take.new.held) _ _ read);
     }
 
 pub returns-in_err-take-in-Known-clause-read : goal.returns-in_err-take-in-Known-clause-read
@@ -141,6 +151,7 @@ fields-preserved g c =
       formats = done.settings.formats ∙ next.settings.formats ∙ i.formats;
       advances = advances_some _ _ _ i.advances (took_then next.read.took done.read.took);
       so_far = other_passed keyed fields i.so_far c.in_ok-field.field-0 c.in-Some.field c.in-Some.is c.next_key.new.remaining next.read next.settings.formats next.settings.levels done.settings.formats done.settings.levels refl (keyed_one keys) (unknown_other fields c.in-Unknown.is) done.read;
+      fault = pair_goes_on keyed c.args.de.now.decoder.levels c.fields.de.decoder.levels c.fields.remaining i.fault (formats_of c.fields.de.decoder.formats) c.in_ok-field.field-0 c.next_key.new.remaining next.read c.in-Some.field c.in-Some.is next.settings.levels done.settings.levels (item_passes IsAny (formats_of c.next_key.new.de.decoder.formats) c.next_key.new.de.decoder.levels tt _ _ done.read);
     }
 
 pub returns-in_err-skip_item-in-Unknown-clause-read : goal.returns-in_err-skip_item-in-Unknown-clause-read
@@ -322,3 +333,63 @@ pub returns-in_err-end_map-clause-memory : goal.returns-in_err-end_map-clause-me
 returns-in_err-end_map-clause-memory g c =
     let passed = err_from_is_err_and c.from_residual-in_err-end_map.result c.from_residual-in_err-end_map.ensures.1 in
     rw (passed.1, passed.2) (λ out bs reports x rest got. absurd (c.in_err-end_map.ensures.memory out))
+
+-- ---- the fault
+
+pub returns-in_err-remaining-clause-fault : goal.returns-in_err-remaining-clause-fault
+returns-in_err-remaining-clause-fault g c =
+    let passed = err_from_is_err_and c.from_residual.result c.from_residual.ensures.1 in
+    let old = c.args.de.now.decoder in
+    rw (passed.1, passed.2) (always g.F.FieldList.reports_faults (beginning_fault g.R.Source.refusals (g.R.Source.source old.source) c.in_err-remaining.field-0.0 head.Map old.levels c.in_err-remaining.ensures.fault))
+
+pub returns-in_err-field-clause-fault : goal.returns-in_err-field-clause-fault
+returns-in_err-field-clause-fault g c =
+    let passed = err_from_is_err_and c.from_residual-in_err-field.result c.from_residual-in_err-field.ensures.1 in
+    let old = c.args.de.now.decoder in
+    let now = c.fields.de.decoder in
+    rw (passed.1, passed.2) (always g.F.FieldList.reports_faults
+    (key_fault old.levels now.levels g.R.Source.refusals c.in_err-field.field-0.0 (g.R.Source.source old.source) (g.R.Source.source now.source) c.fields.remaining c.fields.invariant.fault (formats_of now.formats) c.in_err-field.ensures.fault))
+
+pub returns-in_err-take-in-Known-clause-fault : goal.returns-in_err-take-in-Known-clause-fault
+returns-in_err-take-in-Known-clause-fault g c =
+    let passed = err_from_is_err_and c.from_residual-in_err-take-in-Known.result c.from_residual-in_err-take-in-Known.ensures.1 in
+    let i = c.fields.invariant in
+    let keyed = IsKeyed (keys_of c.args.keys.now) in
+    let next = c.in_ok-field.ensures in
+    let none = c.take_at_hand.ensures in
+    let now = c.next_key.new.de.decoder in
+    let kept = c.take_at_hand.new.de.decoder in
+    let e = c.in_err-take-in-Known.field-0.0 in
+    let here : g.R.Source.source kept.source ≡ g.R.Source.source now.source = rw c.if-take_at_hand.false at none.read in
+    let told = subst (λ (x : Input). WhereTotal g.F.FieldList.reports_faults (ItemFault g.R.Source.refusals kept.levels x e)) here c.in_err-take-in-Known.ensures.fault in
+    rw (passed.1, passed.2) (value_told keyed c.args.de.now.decoder.levels c.fields.de.decoder.levels c.fields.remaining i.fault (formats_of c.fields.de.decoder.formats) c.in_ok-field.field-0 c.next_key.new.remaining next.read c.in-Some.field c.in-Some.is g.R.Source.refusals e g.F.FieldList.reports_faults (none.settings.levels ∙ next.settings.levels) told)
+
+pub returns-in_err-skip_item-in-Unknown-clause-fault : goal.returns-in_err-skip_item-in-Unknown-clause-fault
+returns-in_err-skip_item-in-Unknown-clause-fault g c =
+    let passed = err_from_is_err_and c.from_residual-in_err-skip_item-in-Unknown.result c.from_residual-in_err-skip_item-in-Unknown.ensures.1 in
+    let i = c.fields.invariant in
+    let keyed = IsKeyed (keys_of c.args.keys.now) in
+    let next = c.in_ok-field.ensures in
+    let e = c.in_err-skip_item-in-Unknown.field-0.0 in
+    rw (passed.1, passed.2) (value_told keyed c.args.de.now.decoder.levels c.fields.de.decoder.levels c.fields.remaining i.fault (formats_of c.fields.de.decoder.formats) c.in_ok-field.field-0 c.next_key.new.remaining next.read c.in-Some.field c.in-Some.is g.R.Source.refusals e g.F.FieldList.reports_faults next.settings.levels (always g.F.FieldList.reports_faults c.in_err-skip_item-in-Unknown.ensures.fault))
+
+pub returns-in_err-parts-clause-fault : goal.returns-in_err-parts-clause-fault
+returns-in_err-parts-clause-fault g c =
+    let passed = err_from_is_err_and c.from_residual-in_err-parts.result c.from_residual-in_err-parts.ensures.1 in
+    let old = c.args.de.now.decoder in
+    let k = context old.formats g.R.Source.lends in
+    let e = c.in_err-parts.field-0.0 in
+    let text = fault.names_message (g.F.FieldList.fields k) _ (g.F.FieldList.slots k c.fields.held) (code_of e) (c.in_err-parts.ensures.lacking k) in
+    rw (passed.1, passed.2) (always g.F.FieldList.reports_faults
+    (said_if_any g.R.Source.refusals (g.R.Source.source old.source) e (any_item old.levels) (Some text.0) text.1 c.in_err-parts.ensures.offset))
+
+pub returns-in_err-end_map-clause-fault : goal.returns-in_err-end_map-clause-fault
+returns-in_err-end_map-clause-fault g c =
+    let passed = err_from_is_err_and c.from_residual-in_err-end_map.result c.from_residual-in_err-end_map.ensures.1 in
+    let old = c.args.de.now.decoder in
+    let i = c.fields.invariant in
+    let keyed = IsKeyed (keys_of c.args.keys.now) in
+    let e = c.in_err-end_map.field-0.0 in
+    let nothing = rw c.in_default.is at c.in_ok-field.ensures.remains in
+    rw (passed.1, passed.2) (always g.F.FieldList.reports_faults
+    (end_told keyed old.levels c.fields.de.decoder.levels c.fields.remaining i.fault (formats_of c.fields.de.decoder.formats) c.in_ok-field.field-0 c.next_key.new.remaining c.in_ok-field.ensures.read g.R.Source.refusals e nothing c.in_err-end_map.ensures.read.1))

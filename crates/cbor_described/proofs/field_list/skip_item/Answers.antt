@@ -8,6 +8,7 @@ use Rattle.cbor_read.specs.Source.{asks_for}
 use Rattle.cbor_decode.specs.HasChunks.{AsksWhere, HasChunks}
 use Rattle.cbor_de.specs.Structs.{IsAny}
 use Rattle.cbor_described.proofs.Makings.{memory_as}
+use Rattle.cbor_decode_as.proofs.facts.Refusals.{formats_if_any}
 use Rattle.cbor_described.proofs.field_list.skip_item.Goals as goal
 
 pub returns-in-Err-clause-read : goal.returns-in-Err-clause-read
@@ -20,3 +21,8 @@ pub returns-in-Err-clause-memory : goal.returns-in-Err-clause-memory
 returns-in-Err-clause-memory g c =
     let old = c.args.de.now.decoder in
     memory_as (formats_of old.formats) old.levels (g.R.Source.source old.source) c.in-Err.e (λ (r : Raw). AsksWhere (asks_for g.R.Source.refusals g.R.Source.lends) (HasChunks r)) (λ (r : Raw) (x : IgnoredAny). ⊤) IsAny (λ r y h. (record {}, tt)) c.in-Err.ensures.memory
+
+pub returns-in-Err-clause-fault : goal.returns-in-Err-clause-fault
+returns-in-Err-clause-fault g c =
+    let old = c.args.de.now.decoder in
+    formats_if_any g.R.Source.refusals old.levels (g.R.Source.source old.source) c.in-Err.e (formats_of old.formats) c.in-Err.ensures.fault

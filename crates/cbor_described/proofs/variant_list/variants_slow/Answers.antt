@@ -6,6 +6,8 @@ use Rattle.cbor_described.proofs.OneOfs.{enum_answer}
 use Rattle.cbor_de.specs.Forms.{Began, enum_form}
 use Rattle.cbor_de.proofs.facts.Forms.{began_err, enum_reported, of_left, right_err}
 use Rattle.std.proofs.lemmas.Result.{err_from_is_err_and}
+use Rattle.cbor_decode_as.proofs.facts.Refusals.{always}
+use Rattle.cbor_described.proofs.VariantFaults.{enum_told}
 use Rattle.cbor_described.proofs.variant_list.variants_slow.Goals as goal
 
 pub returns-in_err-index-clause-read : goal.returns-in_err-index-clause-read
@@ -36,3 +38,16 @@ returns-clause-form g c =
     let old = c.args.de.now.decoder in
     let began : Began (formats_of old.formats) c.in_ok-index.form (g.R.Source.source old.source) (g.R.Source.source c.variant_head.new.de.decoder.source) = record { names = texts c.args.names.now; levels = old.levels; left = c.variant_head.new.de.decoder.levels; index = c.in_ok-index.index; step = c.in_ok-index.ensures.opened } in
     right_err enum_form g.E.VariantList.wrong_forms _ _ r (began_err g.E.VariantList.wrong_forms old.formats c.variant_head.new.de.decoder.formats c.in_ok-index.form _ _ r c.in_ok-index.ensures.formats began c.read_variant.ensures.form)
+
+-- ---- the fault
+
+pub returns-in_err-index-clause-fault : goal.returns-in_err-index-clause-fault
+returns-in_err-index-clause-fault g c =
+    let passed = err_from_is_err_and c.from_residual.result c.from_residual.ensures.1 in
+    rw (passed.1, passed.2) (always g.E.VariantList.reports_faults c.in_err-index.ensures.fault)
+
+pub returns-clause-fault : goal.returns-clause-fault
+returns-clause-fault g c =
+    let old = c.args.de.now.decoder in
+    let mid = c.variant_head.new.de.decoder in
+    enum_told g.R.Source.refusals (formats_of old.formats) (texts c.args.names.now) old.levels mid.levels c.in_ok-index.index c.in_ok-index.form (g.R.Source.source old.source) (g.R.Source.source mid.source) g.E.VariantList.reports_faults c.read_variant.result c.in_ok-index.ensures.opened c.read_variant.ensures.fault

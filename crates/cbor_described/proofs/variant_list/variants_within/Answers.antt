@@ -4,6 +4,7 @@ use Rattle.cbor_decode_as.specs.Takes.{context, formats_of}
 use Rattle.cbor_described.proofs.OneOfs.{enum_answer}
 use Rattle.cbor_de.specs.Forms.{Began, enum_form}
 use Rattle.cbor_de.proofs.facts.Forms.{began_err, right_err}
+use Rattle.cbor_described.proofs.VariantFaults.{enum_told}
 use Rattle.cbor_described.proofs.variant_list.variants_within.Goals as goal
 
 pub returns-in-Some-clause-read : goal.returns-in-Some-clause-read
@@ -21,3 +22,9 @@ returns-in-Some-clause-form g c =
     let mid = c.variant_at_hand.new.de.decoder in
     let began : Began (formats_of old.formats) c.in-Some.form (g.R.Source.source old.source) (g.R.Source.source mid.source) = record { names = texts c.args.names.now; levels = old.levels; left = mid.levels; index = c.in-Some.index; step = c.in-Some.ensures.opened } in
     right_err enum_form g.E.VariantList.wrong_forms _ _ r (began_err g.E.VariantList.wrong_forms old.formats mid.formats c.in-Some.form _ _ r c.in-Some.ensures.formats began c.content.ensures.form)
+
+pub returns-in-Some-clause-fault : goal.returns-in-Some-clause-fault
+returns-in-Some-clause-fault g c =
+    let old = c.args.de.now.decoder in
+    let mid = c.variant_at_hand.new.de.decoder in
+    enum_told g.R.Source.refusals (formats_of old.formats) (texts c.args.names.now) old.levels mid.levels c.in-Some.index c.in-Some.form (g.R.Source.source old.source) (g.R.Source.source mid.source) g.E.VariantList.reports_faults c.content.result c.in-Some.ensures.opened c.content.ensures.fault

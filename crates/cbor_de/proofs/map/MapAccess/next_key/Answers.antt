@@ -11,6 +11,9 @@ use Rattle.std.proofs.Common.{inr}
 use Rattle.cbor_decode_as.specs.MapAccesses.{pair_front}
 use Rattle.cbor_decode_as.proofs.facts.Refusals.{reported_why}
 use Rattle.cbor_de.proofs.refusals.AccessFaults.{key_comes}
+use Rattle.cbor_de.specs.Calls.{reports_any}
+use Rattle.cbor_de.proofs.maps.MapFaults.{own_key_comes}
+use Rattle.cbor_de.proofs.refusals.OwnFaults.{item_fault}
 use Rattle.cbor_de.proofs.map.MapAccess.next_key.Goals as goal
 
 pub returns-in-Err-clause-read : goal.returns-in-Err-clause-read
@@ -102,3 +105,22 @@ returns-in-Err-deserialize-clause-fault g c =
     let more = c.in-Ok-true.field-0 in
     inr (key_comes g.K.Readable.passes_over g.K.Readable.total g.R.Source.refusals old.de.now.decoder.formats now.formats old.remaining new s m old.de.now.decoder.levels now.levels c.in-Err-deserialize.e c.more_pairs.ensures.settings.formats c.more_pairs.ensures.settings.levels
     (there s m old.remaining new more old.de.now.decoder.formats c.in-Ok-true.field-0-test c.in-Ok-true.ensures.read) c.in-Err-deserialize.ensures.fault)
+
+pub returns-in-Err-clause-own_fault : goal.returns-in-Err-clause-own_fault
+returns-in-Err-clause-own_fault g c =
+    let old = c.args.self.now in
+    inl (reported_why g.R.Source.refusals (λ l. pair_front (formats_of old.de.now.decoder.formats) (remaining_of old.remaining)) (g.R.Source.source old.de.now.decoder.source) c.more_pairs.new.decoder.refusal c.in-Err.refused c.error.result c.error.ensures.reports c.in-Err.ensures.fault)
+
+pub returns-in-Err-deserialize-clause-own_fault : goal.returns-in-Err-deserialize-clause-own_fault
+returns-in-Err-deserialize-clause-own_fault g c =
+    let old = c.args.self.now in
+    let now = c.more_pairs.new.decoder in
+    let s = g.R.Source.source old.de.now.decoder.source in
+    let m = g.R.Source.source now.source in
+    let new = c.more_pairs.new.remaining in
+    let more = c.in-Ok-true.field-0 in
+    let e = c.in-Err-deserialize.e in
+    let key = g.K.Readable in
+    own_key_comes g.R.Source.refusals (formats_of old.de.now.decoder.formats) old.de.now.decoder.levels old.remaining s e (reports_any key.passes_over key.total key.reports_faults) new m now.levels c.more_pairs.ensures.settings.levels
+    (there s m old.remaining new more old.de.now.decoder.formats c.in-Ok-true.field-0-test c.in-Ok-true.ensures.read)
+    (item_fault g.R.Source.refusals m e now.levels (formats_of now.formats) key.passes_over key.total key.reports_faults c.in-Err-deserialize.ensures.fault c.in-Err-deserialize.ensures.own_fault)

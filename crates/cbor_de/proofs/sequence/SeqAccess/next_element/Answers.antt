@@ -1,11 +1,15 @@
 use Rattle.cbor_io.specs.Error.{code_of, offset_of}
 use Rattle.cbor_read.specs.Source.{asks_for}
 use Rattle.cbor_decode.specs.declared.formats.Formats.{Formats}
-use Rattle.cbor_decode_as.specs.Takes.{context}
+use Rattle.cbor_decode_as.specs.Takes.{context, formats_of}
 use Rattle.cbor_decode_as.proofs.facts.Arrays.{comes, item_asks, item_refused, item_next}
 use Rattle.cbor_de.proofs.refusals.Forms.{later_in}
 use Rattle.std.proofs.Common.{inl, inr}
 use Rattle.cbor_de.proofs.refusals.AccessFaults.{item_comes}
+use Rattle.cbor_decode_as.proofs.facts.Refusals.{always}
+use Rattle.cbor_de.specs.Calls.{reports_any}
+use Rattle.cbor_de.proofs.parts.ArrayFaults.{came_where, next_fault}
+use Rattle.cbor_de.proofs.refusals.OwnFaults.{item_fault}
 use Rattle.cbor_de.proofs.sequence.SeqAccess.next_element.Goals as goal
 
 pub returns-in-Err-deserialize-clause-read : goal.returns-in-Err-deserialize-clause-read
@@ -65,3 +69,22 @@ returns-in-Err-deserialize-clause-fault g c =
     let more = c.in-Ok-true.field-0 in
     inr (item_comes g.T.Readable.passes_over g.T.Readable.total g.R.Source.refusals old.de.now.decoder.formats now.formats old.remaining new s m old.de.now.decoder.levels now.levels c.in-Err-deserialize.e c.more_items.ensures.settings.formats c.more_items.ensures.settings.levels
     (comes s m old.remaining new more c.in-Ok-true.field-0-test c.in-Ok-true.ensures.read) c.in-Err-deserialize.ensures.fault)
+
+pub returns-in-Err-clause-own_fault : goal.returns-in-Err-clause-own_fault
+returns-in-Err-clause-own_fault g c =
+    let old = c.args.self.now in
+    let t = g.T.Readable in
+    always (reports_any t.passes_over t.total t.reports_faults) (next_fault g.R.Source.refusals c.in-Err.e old.de.now.decoder.levels old.remaining (g.R.Source.source old.de.now.decoder.source) c.in-Err.ensures.fault)
+
+pub returns-in-Err-deserialize-clause-own_fault : goal.returns-in-Err-deserialize-clause-own_fault
+returns-in-Err-deserialize-clause-own_fault g c =
+    let old = c.args.self.now in
+    let now = c.more_items.new.decoder in
+    let s = g.R.Source.source old.de.now.decoder.source in
+    let m = g.R.Source.source now.source in
+    let new = c.more_items.new.remaining in
+    let t = g.T.Readable in
+    let e = c.in-Err-deserialize.e in
+    came_where g.R.Source.refusals e old.de.now.decoder.levels old.remaining s (reports_any t.passes_over t.total t.reports_faults) new m now.levels c.more_items.ensures.settings.levels
+    (comes s m old.remaining new c.in-Ok-true.field-0 c.in-Ok-true.field-0-test c.in-Ok-true.ensures.read)
+    (item_fault g.R.Source.refusals m e now.levels (formats_of now.formats) t.passes_over t.total t.reports_faults c.in-Err-deserialize.ensures.fault c.in-Err-deserialize.ensures.own_fault)

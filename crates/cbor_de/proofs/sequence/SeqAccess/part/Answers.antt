@@ -4,6 +4,11 @@ use Rattle.cbor_decode_as.specs.Takes.{context, formats_of}
 use Rattle.cbor_decode_as.proofs.facts.Arrays.{part_missing, part_refused}
 use Rattle.cbor_de.specs.ItemLists.{length_text}
 use Rattle.cbor_de.proofs.parts.ItemLists.{short_told, short_unread}
+use Rattle.cbor_model.specs.Formats.{all_formats}
+use Rattle.cbor_decode_as.specs.Accesses.{items_at}
+use Rattle.cbor_decode_as.proofs.facts.Refusals.{always}
+use Rattle.cbor_de.specs.Calls.{reports_any}
+use Rattle.cbor_de.proofs.refusals.OwnFaults.{message_if_any}
 use Rattle.cbor_de.proofs.sequence.SeqAccess.part.Goals as goal
 
 pub returns-in-Ok-None-clause-read : goal.returns-in-Ok-None-clause-read
@@ -30,3 +35,9 @@ returns-in-Err-clause-short g c =
     let old = c.args.self.now in
     let reads = g.T.Readable.reads (context old.de.now.decoder.formats g.R.Source.lends) in
     short_unread g.R.Source.refusals (length_text c.args.before c.args.expected) old.remaining (g.R.Source.source old.de.now.decoder.source) reads (formats_of old.de.now.decoder.formats) old.de.now.decoder.levels c.in-Err.e c.in-Err.ensures.read
+
+pub returns-in-Ok-None-clause-own_fault : goal.returns-in-Ok-None-clause-own_fault
+returns-in-Ok-None-clause-own_fault g c =
+    let old = c.args.self.now in
+    let t = g.T.Readable in
+    always (reports_any t.passes_over t.total t.reports_faults) (message_if_any g.R.Source.refusals (g.R.Source.source old.de.now.decoder.source) c.invalid_length.result (λ l. items_at all_formats l old.de.now.decoder.levels (remaining_of old.remaining)) c.invalid_length.ensures.message)

@@ -9,6 +9,10 @@ use Rattle.cbor_read.specs.Source.{asks_for}
 use Rattle.cbor_de.specs.StructMemory.{field_then}
 use Rattle.cbor_described.proofs.FieldLists.{memory_behind, slot_memory}
 use Rattle.cbor_described.proofs.Makings.{err_map}
+use Rattle.cbor_io.specs.declared.error.Error.{Error}
+use Rattle.cbor_decode_as.specs.Takes.{ItemFault}
+use Rattle.cbor_de.specs.Calls.{reports_any}
+use Rattle.cbor_described.proofs.FieldFaults as fault
 use Rattle.cbor_described.proofs.field_list.Tuple2ReadFields.take.Goals as goal
 
 pub returns-then-i-ne0-clause-read : goal.returns-then-i-ne0-clause-read
@@ -60,3 +64,17 @@ returns-clause-memory g c =
     let s = g.R.Source.source old.source in
     let held = c.args.held.now in
     err_map _ _ c.take_slot.result (λ e. slot_memory (formats_of old.formats) old.levels s e [] (field_or (g.A.FieldType.reads k) g.A.FieldType.missing (λ p. p.0)) (over (λ p. p.1) (g.F.FieldList.fields k)) (field_then (g.A.Of.Readable.asks_memory a) (g.F.FieldList.asks a)) c.args.i c.if-i-ne0.false tt held.0 (slots_over (λ p. p.1) (g.F.FieldList.fields k) (g.F.FieldList.slots k held.1))) c.take_slot.ensures.memory
+
+-- ---- the fault
+
+pub returns-then-i-ne0-clause-fault : goal.returns-then-i-ne0-clause-fault
+returns-then-i-ne0-clause-fault g c =
+    let old = c.args.de.now.decoder in
+    let P = λ (e : Error). ItemFault g.R.Source.refusals old.levels (g.R.Source.source old.source) e in
+    fault.of_others (reports_any g.A.Of.Readable.passes_over g.A.Of.Readable.total g.A.Of.Readable.reports_faults) g.F.FieldList.reports_faults P c.take.result c.take.ensures.fault
+
+pub returns-clause-fault : goal.returns-clause-fault
+returns-clause-fault g c =
+    let old = c.args.de.now.decoder in
+    let P = λ (e : Error). ItemFault g.R.Source.refusals old.levels (g.R.Source.source old.source) e in
+    fault.of_first (reports_any g.A.Of.Readable.passes_over g.A.Of.Readable.total g.A.Of.Readable.reports_faults) g.F.FieldList.reports_faults P c.take_slot.result c.take_slot.ensures.fault

@@ -9,6 +9,10 @@ use Rattle.cbor_read.specs.Source.{asks_for}
 use Rattle.cbor_de.specs.StructMemory.{field_then}
 use Rattle.cbor_described.proofs.FieldLists.{memory_behind, slot_memory}
 use Rattle.cbor_described.proofs.Makings.{err_map}
+use Rattle.cbor_io.specs.declared.error.Error.{Error}
+use Rattle.cbor_decode_as.specs.Takes.{ItemFault}
+use Rattle.cbor_de.specs.Calls.{and_reports, reports_any}
+use Rattle.cbor_described.proofs.FieldFaults as fault
 use Rattle.cbor_described.proofs.field_list.Tuple5ReadFields.take.Goals as goal
 
 pub returns-in-0-clause-read : goal.returns-in-0-clause-read
@@ -139,3 +143,50 @@ returns-in_default-clause-memory g c =
     let i = c.args.i in
     let place : i ≡ 4 + (i - 4) = omega (arith, c.in_default) in
     err_map _ _ c.take.result (λ e. memory_behind (formats_of old.formats) old.levels s e (λ p. p.4) (g.F.FieldList.fields k) (field_or (g.A.FieldType.reads k) g.A.FieldType.missing (λ p. p.0) ∷ field_or (g.B.FieldType.reads k) g.B.FieldType.missing (λ p. p.1) ∷ field_or (g.C.FieldType.reads k) g.C.FieldType.missing (λ p. p.2) ∷ field_or (g.D.FieldType.reads k) g.D.FieldType.missing (λ p. p.3) ∷ []) (field_then (g.A.Of.Readable.asks_memory a) (field_then (g.B.Of.Readable.asks_memory a) (field_then (g.C.Of.Readable.asks_memory a) (field_then (g.D.Of.Readable.asks_memory a) (g.F.FieldList.asks a))))) i (i - 4) place (held.0, (held.1, (held.2, (held.3, tt)))) (g.F.FieldList.slots k held.4)) c.take.ensures.memory
+
+-- ---- the fault
+
+pub returns-in-0-clause-fault : goal.returns-in-0-clause-fault
+returns-in-0-clause-fault g c =
+    let old = c.args.de.now.decoder in
+    let P = λ (e : Error). ItemFault g.R.Source.refusals old.levels (g.R.Source.source old.source) e in
+    let r = c.take_slot.result in
+    fault.of_first (reports_any g.A.Of.Readable.passes_over g.A.Of.Readable.total g.A.Of.Readable.reports_faults) (and_reports (reports_any g.B.Of.Readable.passes_over g.B.Of.Readable.total g.B.Of.Readable.reports_faults) (and_reports (reports_any g.C.Of.Readable.passes_over g.C.Of.Readable.total g.C.Of.Readable.reports_faults) (and_reports (reports_any g.D.Of.Readable.passes_over g.D.Of.Readable.total g.D.Of.Readable.reports_faults) g.F.FieldList.reports_faults))) P r c.take_slot.ensures.fault
+
+pub returns-in-1-clause-fault : goal.returns-in-1-clause-fault
+returns-in-1-clause-fault g c =
+    let old = c.args.de.now.decoder in
+    let P = λ (e : Error). ItemFault g.R.Source.refusals old.levels (g.R.Source.source old.source) e in
+    let r = c.take_slot-in-1.result in
+    fault.of_others (reports_any g.A.Of.Readable.passes_over g.A.Of.Readable.total g.A.Of.Readable.reports_faults) (and_reports (reports_any g.B.Of.Readable.passes_over g.B.Of.Readable.total g.B.Of.Readable.reports_faults) (and_reports (reports_any g.C.Of.Readable.passes_over g.C.Of.Readable.total g.C.Of.Readable.reports_faults) (and_reports (reports_any g.D.Of.Readable.passes_over g.D.Of.Readable.total g.D.Of.Readable.reports_faults) g.F.FieldList.reports_faults))) P r
+    (fault.of_first (reports_any g.B.Of.Readable.passes_over g.B.Of.Readable.total g.B.Of.Readable.reports_faults) (and_reports (reports_any g.C.Of.Readable.passes_over g.C.Of.Readable.total g.C.Of.Readable.reports_faults) (and_reports (reports_any g.D.Of.Readable.passes_over g.D.Of.Readable.total g.D.Of.Readable.reports_faults) g.F.FieldList.reports_faults)) P r c.take_slot-in-1.ensures.fault)
+
+pub returns-in-2-clause-fault : goal.returns-in-2-clause-fault
+returns-in-2-clause-fault g c =
+    let old = c.args.de.now.decoder in
+    let P = λ (e : Error). ItemFault g.R.Source.refusals old.levels (g.R.Source.source old.source) e in
+    let r = c.take_slot-in-2.result in
+    fault.of_others (reports_any g.A.Of.Readable.passes_over g.A.Of.Readable.total g.A.Of.Readable.reports_faults) (and_reports (reports_any g.B.Of.Readable.passes_over g.B.Of.Readable.total g.B.Of.Readable.reports_faults) (and_reports (reports_any g.C.Of.Readable.passes_over g.C.Of.Readable.total g.C.Of.Readable.reports_faults) (and_reports (reports_any g.D.Of.Readable.passes_over g.D.Of.Readable.total g.D.Of.Readable.reports_faults) g.F.FieldList.reports_faults))) P r
+    (fault.of_others (reports_any g.B.Of.Readable.passes_over g.B.Of.Readable.total g.B.Of.Readable.reports_faults) (and_reports (reports_any g.C.Of.Readable.passes_over g.C.Of.Readable.total g.C.Of.Readable.reports_faults) (and_reports (reports_any g.D.Of.Readable.passes_over g.D.Of.Readable.total g.D.Of.Readable.reports_faults) g.F.FieldList.reports_faults)) P r
+    (fault.of_first (reports_any g.C.Of.Readable.passes_over g.C.Of.Readable.total g.C.Of.Readable.reports_faults) (and_reports (reports_any g.D.Of.Readable.passes_over g.D.Of.Readable.total g.D.Of.Readable.reports_faults) g.F.FieldList.reports_faults) P r c.take_slot-in-2.ensures.fault))
+
+pub returns-in-3-clause-fault : goal.returns-in-3-clause-fault
+returns-in-3-clause-fault g c =
+    let old = c.args.de.now.decoder in
+    let P = λ (e : Error). ItemFault g.R.Source.refusals old.levels (g.R.Source.source old.source) e in
+    let r = c.take_slot-in-3.result in
+    fault.of_others (reports_any g.A.Of.Readable.passes_over g.A.Of.Readable.total g.A.Of.Readable.reports_faults) (and_reports (reports_any g.B.Of.Readable.passes_over g.B.Of.Readable.total g.B.Of.Readable.reports_faults) (and_reports (reports_any g.C.Of.Readable.passes_over g.C.Of.Readable.total g.C.Of.Readable.reports_faults) (and_reports (reports_any g.D.Of.Readable.passes_over g.D.Of.Readable.total g.D.Of.Readable.reports_faults) g.F.FieldList.reports_faults))) P r
+    (fault.of_others (reports_any g.B.Of.Readable.passes_over g.B.Of.Readable.total g.B.Of.Readable.reports_faults) (and_reports (reports_any g.C.Of.Readable.passes_over g.C.Of.Readable.total g.C.Of.Readable.reports_faults) (and_reports (reports_any g.D.Of.Readable.passes_over g.D.Of.Readable.total g.D.Of.Readable.reports_faults) g.F.FieldList.reports_faults)) P r
+    (fault.of_others (reports_any g.C.Of.Readable.passes_over g.C.Of.Readable.total g.C.Of.Readable.reports_faults) (and_reports (reports_any g.D.Of.Readable.passes_over g.D.Of.Readable.total g.D.Of.Readable.reports_faults) g.F.FieldList.reports_faults) P r
+    (fault.of_first (reports_any g.D.Of.Readable.passes_over g.D.Of.Readable.total g.D.Of.Readable.reports_faults) g.F.FieldList.reports_faults P r c.take_slot-in-3.ensures.fault)))
+
+pub returns-in_default-clause-fault : goal.returns-in_default-clause-fault
+returns-in_default-clause-fault g c =
+    let old = c.args.de.now.decoder in
+    let P = λ (e : Error). ItemFault g.R.Source.refusals old.levels (g.R.Source.source old.source) e in
+    let r = c.take.result in
+    fault.of_others (reports_any g.A.Of.Readable.passes_over g.A.Of.Readable.total g.A.Of.Readable.reports_faults) (and_reports (reports_any g.B.Of.Readable.passes_over g.B.Of.Readable.total g.B.Of.Readable.reports_faults) (and_reports (reports_any g.C.Of.Readable.passes_over g.C.Of.Readable.total g.C.Of.Readable.reports_faults) (and_reports (reports_any g.D.Of.Readable.passes_over g.D.Of.Readable.total g.D.Of.Readable.reports_faults) g.F.FieldList.reports_faults))) P r
+    (fault.of_others (reports_any g.B.Of.Readable.passes_over g.B.Of.Readable.total g.B.Of.Readable.reports_faults) (and_reports (reports_any g.C.Of.Readable.passes_over g.C.Of.Readable.total g.C.Of.Readable.reports_faults) (and_reports (reports_any g.D.Of.Readable.passes_over g.D.Of.Readable.total g.D.Of.Readable.reports_faults) g.F.FieldList.reports_faults)) P r
+    (fault.of_others (reports_any g.C.Of.Readable.passes_over g.C.Of.Readable.total g.C.Of.Readable.reports_faults) (and_reports (reports_any g.D.Of.Readable.passes_over g.D.Of.Readable.total g.D.Of.Readable.reports_faults) g.F.FieldList.reports_faults) P r
+    (fault.of_others (reports_any g.D.Of.Readable.passes_over g.D.Of.Readable.total g.D.Of.Readable.reports_faults) g.F.FieldList.reports_faults P r
+    (c.take.ensures.fault))))

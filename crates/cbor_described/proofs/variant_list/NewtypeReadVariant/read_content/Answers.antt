@@ -2,6 +2,7 @@ use Rattle.cbor_decode_as.specs.Enums.{IsPart}
 use Rattle.cbor_decode_as.specs.Takes.{context, formats_of}
 use Rattle.cbor_de.proofs.facts.Forms.{part_content}
 use Rattle.cbor_described.proofs.OneOfs.{content_not_made}
+use Rattle.cbor_de.proofs.facts.Enums.{part_any}
 use Rattle.cbor_described.proofs.variant_list.NewtypeReadVariant.read_content.Goals as goal
 
 pub returns-in-Err-clause-read : goal.returns-in-Err-clause-read
@@ -13,3 +14,9 @@ returns-in-Err-clause-read g c =
 
 pub returns-in-Err-clause-form : goal.returns-in-Err-clause-form
 returns-in-Err-clause-form g c = part_content g.T.Readable.wrong_forms (formats_of c.args.de.now.decoder.formats) c.args.form _ c.in-Err.e c.in-Err.ensures.form
+
+pub returns-in-Err-clause-fault : goal.returns-in-Err-clause-fault
+returns-in-Err-clause-fault g c =
+    let old = c.args.de.now.decoder in
+    let of = g.T.Readable in
+    part_any of.passes_over of.total of.reports_faults g.R.Source.refusals (of.reads (context old.formats g.R.Source.lends)) (formats_of old.formats) old.levels c.args.form (g.R.Source.source old.source) c.in-Err.e c.in-Err.ensures.fault

@@ -1,6 +1,8 @@
 use Rattle.cbor_decode_as.specs.Takes.{context, formats_of}
 use Rattle.cbor_described.proofs.OneOfs.{this_unread, other_unread}
 use Rattle.cbor_de.proofs.facts.Forms.{content_left, content_right}
+use Rattle.cbor_decode_as.specs.Contents.{ContentFault}
+use Rattle.cbor_de.proofs.facts.Faults.{first_reports, other_reports}
 use Rattle.cbor_described.proofs.variant_list.OneOfReadVariants.read_variant.Goals as goal
 
 pub returns-in-Err-clause-read : goal.returns-in-Err-clause-read
@@ -20,3 +22,13 @@ returns-in-Err-clause-form g c = content_right g.V.Variant.wrong_forms g.Vs.Vari
 
 pub returns-in-Err-read_content-clause-form : goal.returns-in-Err-read_content-clause-form
 returns-in-Err-read_content-clause-form g c = content_left g.V.Variant.wrong_forms g.Vs.VariantList.wrong_forms _ c.args.form _ c.in-Err-read_content.e c.in-Err-read_content.ensures.form
+
+pub returns-in-Err-clause-fault : goal.returns-in-Err-clause-fault
+returns-in-Err-clause-fault g c =
+    let old = c.args.de.now.decoder in
+    other_reports (ContentFault g.R.Source.refusals old.levels c.args.form (g.R.Source.source old.source) c.in-Err.e) g.V.Variant.reports_faults g.Vs.VariantList.reports_faults c.in-Err.ensures.fault
+
+pub returns-in-Err-read_content-clause-fault : goal.returns-in-Err-read_content-clause-fault
+returns-in-Err-read_content-clause-fault g c =
+    let old = c.args.de.now.decoder in
+    first_reports (ContentFault g.R.Source.refusals old.levels c.args.form (g.R.Source.source old.source) c.in-Err-read_content.e) g.V.Variant.reports_faults g.Vs.VariantList.reports_faults c.in-Err-read_content.ensures.fault

@@ -7,6 +7,8 @@ use Rattle.cbor_described.specs.declared.variant_list.NamedParts.{NamedParts}
 use Rattle.cbor_de.proofs.facts.Forms.{part_content}
 use Rattle.cbor_described.proofs.OneOfs.{content_made, content_not_made}
 use Rattle.cbor_described.proofs.OneParts.{is_part, part_is}
+use Rattle.std.proofs.Common.{false}
+use Rattle.cbor_de.proofs.facts.Enums.{part_any}
 use Rattle.cbor_described.proofs.variant_list.StructReadVariant.read_content.Goals as goal
 
 pub returns-in-Ok-clause-read : goal.returns-in-Ok-clause-read
@@ -27,3 +29,10 @@ returns-in-Err-clause-read g c =
 
 pub returns-in-Err-clause-form : goal.returns-in-Err-clause-form
 returns-in-Err-clause-form g c = part_content g.N.Parts.ReadableParts.wrong_forms (formats_of c.args.de.now.decoder.formats) c.args.form _ c.in-Err.e c.in-Err.ensures.form
+
+pub returns-in-Err-clause-fault : goal.returns-in-Err-clause-fault
+returns-in-Err-clause-fault g c =
+    let old = c.args.de.now.decoder in
+    let of = g.N.Parts.ReadableParts in
+    let named = λ (r : Raw) (y : NamedParts g.row.N.Denot g.row.N-Parts.Denot). of.reads (named_keys g.N.FieldNames.names) (context old.formats g.R.Source.lends) r y.0 in
+    part_any false false of.reports_faults g.R.Source.refusals named (formats_of old.formats) old.levels c.args.form (g.R.Source.source old.source) c.in-Err.e c.in-Err.ensures.fault

@@ -7,6 +7,9 @@ use Rattle.cbor_decode_as.specs.Takes.{context, formats_of}
 use Rattle.cbor_described.proofs.OneOfs.{entered_reports}
 use Rattle.cbor_described.proofs.OneOfs.{content_made, content_not_made, no_parts, parts_meant, parts_not_meant}
 use Rattle.cbor_de.proofs.facts.Forms.{content_later}
+use Rattle.cbor_decode_as.proofs.facts.Refusals.{always}
+use Rattle.cbor_decode_as.proofs.facts.Enums.{parts_content}
+use Rattle.cbor_described.proofs.VariantFaults.{parts_told, where_then}
 use Rattle.cbor_described.proofs.variant_list.TupleReadVariant.read_content.Goals as goal
 
 pub returns-in_err-remaining-clause-read : goal.returns-in_err-remaining-clause-read
@@ -53,3 +56,17 @@ returns-in-Err-clause-form g c =
 pub returns-in-Err-clause-alone : goal.returns-in-Err-clause-alone
 returns-in-Err-clause-alone g c =
     entered_reports _ c.args.form _ _ c.in-Err.e c.in_ok-remaining.ensures.inside
+
+pub returns-in_err-remaining-clause-fault : goal.returns-in_err-remaining-clause-fault
+returns-in_err-remaining-clause-fault g c =
+    let passed = err_from_is_err_and c.from_residual.result c.from_residual.ensures.1 in
+    let old = c.args.de.now.decoder in
+    rw (passed.1, passed.2) (always g.F.ReadableTuple.reports_faults
+    (parts_content g.R.Source.refusals old.levels c.args.form (g.R.Source.source old.source) c.in_err-remaining.field-0.0 c.in_err-remaining.ensures.fault))
+
+pub returns-in-Err-clause-fault : goal.returns-in-Err-clause-fault
+returns-in-Err-clause-fault g c =
+    let old = c.args.de.now.decoder in
+    let mid = c.parts.new.de.decoder in
+    where_then g.F.ReadableTuple.reports_faults
+    (parts_told g.R.Source.refusals old.levels mid.levels c.args.form c.in_ok-remaining.remaining (g.R.Source.source old.source) (g.R.Source.source mid.source) c.in-Err.e c.in_ok-remaining.ensures.opened) c.in-Err.ensures.fault

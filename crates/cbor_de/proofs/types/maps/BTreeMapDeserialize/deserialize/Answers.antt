@@ -16,6 +16,12 @@ use Rattle.cbor_decode.proofs.facts.Steps.{took_same, some_then}
 use Rattle.cbor_decode_as.proofs.facts.Readings.{refuses_memory}
 use Rattle.cbor_de.proofs.refusals.Forms.{key_in_map, later_in, of_left, of_right}
 use Rattle.cbor_de.specs.Forms.{any_of, key_form}
+use Rattle.cbor_decode.specs.declared.head.Head.TheVariants as head
+use Rattle.cbor_decode_as.specs.Takes.{ItemFault, any_item}
+use Rattle.cbor_decode_as.proofs.facts.Refusals.{always}
+use Rattle.cbor_de.specs.Calls.{and_reports, reports_any}
+use Rattle.cbor_de.proofs.maps.MapFaults.{end_told, item_passes, key_told, map_behind, pair_goes_on, value_told}
+use Rattle.cbor_de.proofs.refusals.OwnFaults.{beginning_fault, first_reports, memory_if_any, other_reports}
 use Rattle.cbor_de.proofs.types.maps.BTreeMapDeserialize.deserialize.Goals as goal
 
 pub returns-in_err-access-clause-read : goal.returns-in_err-access-clause-read
@@ -41,6 +47,7 @@ pairs-init g c =
       formats = c.in_ok-access.ensures.settings.formats;
       due = c.in_ok-access.ensures.due;
       so_far = map_begins s0 (Made keys values g.K.Ord.cmp es) old.decoder.formats first.decoder.levels c.in_ok-access.access.remaining (none_made keys values g.K.Ord.cmp es c.new-map.ensures.empty);
+      fault = map_behind old.decoder.levels first.decoder.levels _ _ c.in_ok-access.access.remaining c.in_ok-access.ensures.opened;
     }
 
 pub pairs-preserved : goal.pairs-preserved
@@ -71,6 +78,8 @@ pairs-preserved g c =
     now.decoder.formats now.decoder.levels i.formats i.levels keys values c.pairs.access.remaining s
     next.remaining t k next.de.now.decoder.formats next.de.now.decoder.levels formats levels
     Q u v (made_more (keys old.decoder.formats) (values old.decoder.formats) g.K.Ord.cmp es new k v put) i.so_far read c.in_ok-value.ensures.read in
+    let fault = pair_goes_on (keys now.decoder.formats) old.decoder.levels now.decoder.levels c.pairs.access.remaining i.fault (formats_of now.decoder.formats) c.in_ok-key.field-0 next.remaining c.in_ok-key.ensures.read k c.in-Some.is c.in_ok-key.ensures.settings.levels c.in_ok-value.ensures.settings.levels
+    (item_passes (values next.de.now.decoder.formats) (formats_of next.de.now.decoder.formats) next.de.now.decoder.levels v t u c.in_ok-value.ensures.read) in
     record {
       same = search rules;
       outer = search rules;
@@ -78,6 +87,7 @@ pairs-preserved g c =
       formats = search rules;
       due = search rules;
       so_far = rw c.in_ok-value.ensures.remaining so_far;
+      fault = rw c.in_ok-value.ensures.remaining fault;
     }
 
 pub returns-in_err-key-clause-read : goal.returns-in_err-key-clause-read
@@ -204,3 +214,61 @@ returns-in_err-value-clause-form g c =
     let e = c.in_err-value.field-0.0 in
     let took = some_then _ _ _ c.in_ok-access.ensures.head.took (some_then _ _ _ i.so_far.took c.in_ok-key.ensures.read.took) in
     rw (passed.1, passed.2) (of_right (any_of key_form g.K.Readable.wrong_forms) g.V.Readable.wrong_forms _ _ e (later_in g.V.Readable.wrong_forms c.args.de.now.decoder.formats c.next_key.new.self.de.now.decoder.formats _ _ e (c.in_ok-key.ensures.settings.formats ∙ i.formats) took c.in_err-value.ensures.form))
+
+-- ---- the fault
+
+pub returns-in_err-access-clause-own_fault : goal.returns-in_err-access-clause-own_fault
+returns-in_err-access-clause-own_fault g c =
+    let passed = err_from_is_err_and c.from_residual.result c.from_residual.ensures.1 in
+    let old = c.args.de.now.decoder in
+    let a = reports_any g.K.Readable.passes_over g.K.Readable.total g.K.Readable.reports_faults in
+    let b = reports_any g.V.Readable.passes_over g.V.Readable.total g.V.Readable.reports_faults in
+    rw (passed.1, passed.2) (always (and_reports a b) (beginning_fault g.R.Source.refusals (g.R.Source.source old.source) c.in_err-access.field-0.0 head.Map old.levels c.in_err-access.ensures.fault))
+
+pub returns-in_err-key-clause-own_fault : goal.returns-in_err-key-clause-own_fault
+returns-in_err-key-clause-own_fault g c =
+    let passed = err_from_is_err_and c.from_residual-in_err-key.result c.from_residual-in_err-key.ensures.1 in
+    let old = c.args.de.now.decoder in
+    let now = c.pairs.access.de.now.decoder in
+    let s = g.R.Source.source old.source in
+    let e = c.in_err-key.field-0.0 in
+    let a = reports_any g.K.Readable.passes_over g.K.Readable.total g.K.Readable.reports_faults in
+    let b = reports_any g.V.Readable.passes_over g.V.Readable.total g.V.Readable.reports_faults in
+    rw (passed.1, passed.2) (first_reports (ItemFault g.R.Source.refusals old.levels s e) a b
+    (key_told old.levels now.levels g.R.Source.refusals e s (g.R.Source.source now.source) c.pairs.access.remaining c.pairs.invariant.fault (formats_of now.formats) a c.in_err-key.ensures.own_fault))
+
+pub returns-in_err-value-clause-own_fault : goal.returns-in_err-value-clause-own_fault
+returns-in_err-value-clause-own_fault g c =
+    let passed = err_from_is_err_and c.from_residual-in_err-value.result c.from_residual-in_err-value.ensures.1 in
+    let old = c.args.de.now in
+    let i = c.pairs.invariant in
+    let now = c.pairs.access.de.now in
+    let next = c.next_key.new.self in
+    let e = c.in_err-value.field-0.0 in
+    let keys = λ (f : Formats). g.K.Readable.reads (context f g.R.Source.lends) in
+    let a = reports_any g.K.Readable.passes_over g.K.Readable.total g.K.Readable.reports_faults in
+    let b = reports_any g.V.Readable.passes_over g.V.Readable.total g.V.Readable.reports_faults in
+    rw (passed.1, passed.2) (other_reports (ItemFault g.R.Source.refusals old.decoder.levels (g.R.Source.source old.decoder.source) e) a b (value_told (keys now.decoder.formats) old.decoder.levels now.decoder.levels c.pairs.access.remaining i.fault (formats_of now.decoder.formats) c.in_ok-key.field-0 next.remaining c.in_ok-key.ensures.read c.in-Some.key c.in-Some.is g.R.Source.refusals e b c.in_ok-key.ensures.settings.levels c.in_err-value.ensures.own_fault))
+
+pub returns-in_err-end-clause-own_fault : goal.returns-in_err-end-clause-own_fault
+returns-in_err-end-clause-own_fault g c =
+    let passed = err_from_is_err_and c.from_residual-in_err-end.result c.from_residual-in_err-end.ensures.1 in
+    let old = c.args.de.now in
+    let i = c.pairs.invariant in
+    let now = c.pairs.access.de.now in
+    let next = c.next_key.new.self in
+    let e = c.in_err-end.field-0.0 in
+    let keys = λ (f : Formats). g.K.Readable.reads (context f g.R.Source.lends) in
+    let none = rw c.in_default.is at c.in_ok-key.ensures.remains in
+    let a = reports_any g.K.Readable.passes_over g.K.Readable.total g.K.Readable.reports_faults in
+    let b = reports_any g.V.Readable.passes_over g.V.Readable.total g.V.Readable.reports_faults in
+    rw (passed.1, passed.2) (always (and_reports a b) (end_told (keys now.decoder.formats) old.decoder.levels now.decoder.levels c.pairs.access.remaining i.fault (formats_of now.decoder.formats) c.in_ok-key.field-0 next.remaining c.in_ok-key.ensures.read g.R.Source.refusals e none c.in_err-end.ensures.read.1))
+
+pub returns-then-is_err-clause-own_fault : goal.returns-then-is_err-clause-own_fault
+returns-then-is_err-clause-own_fault g c =
+    let old = c.args.de.now.decoder in
+    let e = c.from.result in
+    let memory : IsOutOfMemory e = search rules in
+    let a = reports_any g.K.Readable.passes_over g.K.Readable.total g.K.Readable.reports_faults in
+    let b = reports_any g.V.Readable.passes_over g.V.Readable.total g.V.Readable.reports_faults in
+    rw c.refuse.ensures.error (always (and_reports a b) (memory_if_any g.R.Source.refusals (g.R.Source.source old.source) e (any_item old.levels) memory.0 memory.1))

@@ -7,9 +7,11 @@ use Rattle.cbor_decode_as.specs.Nulls.{null_at}
 use Rattle.cbor_decode_as.specs.Takes.{raws, context, formats_of, IsRead, IsNotRead, MemoryFor, Refuses, RefusesWhole, WhereTotal}
 use Rattle.cbor_decode.specs.declared.formats.Formats.{Formats}
 use Rattle.cbor_decode_as.proofs.facts.Nulls.{option_none, option_some, option_refused, option_memory, option_whole, unseen_whole}
-use Rattle.cbor_decode_as.proofs.facts.Refusals.{always, item_only, item_passes}
+use Rattle.cbor_decode_as.proofs.facts.Refusals.{always, item_only, item_passes, whole_if_any}
 use Rattle.cbor_de.proofs.refusals.Faults.{where_map}
 use Rattle.cbor_de.proofs.refusals.Forms.{later_in}
+use Rattle.cbor_de.specs.Calls.{reports_any}
+use Rattle.cbor_de.proofs.refusals.OwnFaults.{item_fault, item_unless_null}
 use Rattle.cbor_de.proofs.types.option.OptionDeserialize.deserialize.Goals as goal
 
 pub returns-in-Ok-true-clause-read : goal.returns-in-Ok-true-clause-read
@@ -86,3 +88,25 @@ returns-in-Err-deserialize-clause-fault g c =
 pub returns-in-Err-deserialize-clause-form : goal.returns-in-Err-deserialize-clause-form
 returns-in-Err-deserialize-clause-form g c =
     later_in g.T.Readable.wrong_forms c.args.de.now.decoder.formats c.take_null.new.decoder.formats _ _ c.in-Err-deserialize.e c.in-Ok-false.ensures.settings.formats c.in-Ok-false.ensures.read.took c.in-Err-deserialize.ensures.form
+
+pub returns-in-Err-clause-own_fault : goal.returns-in-Err-clause-own_fault
+returns-in-Err-clause-own_fault g c =
+    let de = c.args.de.now in
+    let levels = de.decoder.levels in
+    let s = g.R.Source.source de.decoder.source in
+    let t = g.T.Readable in
+    let e = c.error.result in
+    let whole = unseen_whole g.R.Source.refusals levels s c.take_null.new.decoder.refusal c.in-Err.refused e c.in-Err.ensures.read c.error.ensures.reports in
+    always (reports_any t.passes_over t.total t.reports_faults) (whole_if_any g.R.Source.refusals s e levels whole)
+
+pub returns-in-Err-deserialize-clause-own_fault : goal.returns-in-Err-deserialize-clause-own_fault
+returns-in-Err-deserialize-clause-own_fault g c =
+    let de = c.args.de.now in
+    let s = g.R.Source.source de.decoder.source in
+    let mid = c.take_null.new.decoder in
+    let m = g.R.Source.source mid.source in
+    let step = subst (λ (b : Bool). Step s m (λ l bs rest. null_at bs ≡ Ok (b, rest))) c.in-Ok-false.field-0-test c.in-Ok-false.ensures.read in
+    let e = c.in-Err-deserialize.e in
+    let t = g.T.Readable in
+    where_map (reports_any t.passes_over t.total t.reports_faults) (item_unless_null g.R.Source.refusals de.decoder.levels mid.levels c.in-Ok-false.ensures.settings.levels s m e step)
+    (item_fault g.R.Source.refusals m e mid.levels (formats_of mid.formats) t.passes_over t.total t.reports_faults c.in-Err-deserialize.ensures.fault c.in-Err-deserialize.ensures.own_fault)
