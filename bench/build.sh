@@ -2,7 +2,7 @@
 # Builds the programs that bench/speed.py, lists.py and agree.py compare with, into bench/out: `measured`,
 # `lists` and `answers` over the Rust crate serde_cbor, and `libcbor`. They stand on Debian's packages
 # librust-serde-cbor-dev, librust-serde-derive-dev, librust-half-dev and libcbor-dev; cargo and cc have
-# to be there.
+# to be there. Where go is, with golang-github-fxamacker-cbor-dev, `fxamacker` is built too.
 set -euo pipefail
 cd "$(dirname "$0")"
 registry=${CARGO_REGISTRY:-/usr/share/cargo/registry}
@@ -22,3 +22,6 @@ cp -r rust out/rust
 )
 cp out/target/release/measured out/target/release/answers out/target/release/lists out/
 cc -O2 -o out/libcbor libcbor.c -lcbor
+if command -v go > /dev/null; then
+    GO111MODULE=off GOPATH=${GOPATH:-/usr/share/gocode} go build -o out/fxamacker go/lists.go
+fi

@@ -1,5 +1,5 @@
 #!/usr/bin/env python3
-"""Counts the instructions that an item of a list of small things takes; see README.md."""
+"""Counts the instructions that an item of a list of small things takes, or its CPU time; see README.md."""
 import argparse
 import os
 import random
@@ -8,11 +8,13 @@ import struct
 import subprocess
 import tempfile
 
+import speed
 from items import NEGATIVE, UNSIGNED, array, head, text
 
 HERE = os.path.dirname(os.path.abspath(__file__))
 OURS = os.path.join(HERE, '..', 'crates', 'lists_bench', 'out', 'lists_bench')
 CRATE = os.path.join(HERE, 'out', 'lists')
+GO = os.path.join(HERE, 'out', 'fxamacker')
 COUNT = 20_000
 rng = random.Random(8949)
 
@@ -88,6 +90,7 @@ RULED = ('u32, five bytes', 'String, 8 bytes', '(u32, bool, String)', 'struct of
 # The Rust crate's way that is the nearest, where it has not the same.
 NEAREST = {5: 2, 6: 4}
 DEVICE_KINDS = 'biuSft'
+GO_KINDS = 'boiusSftpP'
 
 
 def by_rules(program):
@@ -101,27 +104,48 @@ def by_rules(program):
         print('| ' + ' | '.join([name, f'{read:.1f}', *(f'+{it - read:.1f}' for it in others)]) + ' |', flush=True)
 
 
+def by_instructions(program, tasks, lists):
+    """Prints the instructions an item, and how many times as many the Rust crate takes."""
+    print('| list | ' + ' | '.join(f'{task} | Rust crate | times' for task in tasks) + ' |')
+    print('|---' * (1 + 3 * len(tasks)) + '|')
+    for name, kind, item in lists:
+        cells = [name]
+        for task in tasks.values():
+            ours = each(program, task, kind, item)
+            theirs = each(CRATE, NEAREST.get(task, task), kind, item)
+            cells += [f'{ours:.1f}', f'{theirs:.1f}', f'{theirs / ours:.2f}']
+        print('| ' + ' | '.join(cells) + ' |', flush=True)
+
+
+def by_time(program, tasks, lists):
+    """Prints the CPU time an item, in ns, and how many times as much the Rust crate and fxamacker/cbor take."""
+    tasks = {task: number for task, number in tasks.items() if number not in NEAREST}
+    print('| list | ' + ' | '.join(f'{task}, ns | Rust crate | fxamacker/cbor' for task in tasks) + ' |')
+    print('|---' * (1 + 3 * len(tasks)) + '|')
+    for name, kind, item in lists:
+        cells = [name]
+        for task in tasks.values():
+            peers = [CRATE, GO] if kind in GO_KINDS else [CRATE]
+            ours, *theirs = speed.milliseconds([program, *peers], speed.Request(task, kind.encode() + item))
+            times = [f'{other / ours:.2f}' for other in theirs]
+            cells += [f'{ours * 1e6 / COUNT:.1f}', *times, *[''] * (2 - len(times))]
+        print('| ' + ' | '.join(cells) + ' |', flush=True)
+
+
 def main():
     parser = argparse.ArgumentParser(description=__doc__)
     parser.add_argument('word', nargs='?', default='', help='count the lists alone whose name has this in it')
     parser.add_argument('--program', default=OURS, help='count this program in place of lists_bench')
     parser.add_argument('--devices', action='store_true', help='from readers and to a writer')
     parser.add_argument('--rules', action='store_true', help='what strict reading and rules add')
+    parser.add_argument('--time', action='store_true', help='CPU time, beside fxamacker/cbor too')
     chosen = parser.parse_args()
     if chosen.rules:
         return by_rules(chosen.program)
     tasks = DEVICES if chosen.devices else SLICES
-    print('| list | ' + ' | '.join(f'{task} | Rust crate | times' for task in tasks) + ' |')
-    print('|---' * (1 + 3 * len(tasks)) + '|')
-    for name, (kind, make) in LISTS.items():
-        item = array(make() for _ in range(COUNT))
-        if chosen.word in name and (not chosen.devices or kind in DEVICE_KINDS):
-            cells = [name]
-            for task in tasks.values():
-                ours = each(chosen.program, task, kind, item)
-                theirs = each(CRATE, NEAREST.get(task, task), kind, item)
-                cells += [f'{ours:.1f}', f'{theirs:.1f}', f'{theirs / ours:.2f}']
-            print('| ' + ' | '.join(cells) + ' |', flush=True)
+    made = ((name, kind, array(make() for _ in range(COUNT))) for name, (kind, make) in LISTS.items())
+    lists = (it for it in made if chosen.word in it[0] and (not chosen.devices or it[1] in DEVICE_KINDS))
+    (by_time if chosen.time else by_instructions)(chosen.program, tasks, lists)
 
 
 if __name__ == '__main__':

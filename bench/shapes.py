@@ -94,3 +94,27 @@ SHAPES = {
 }
 for ORDER in ORDERS:
     SHAPES[f'a map of 10,000 pairs, keys {ORDER}'] = lambda order=ORDER: of_pairs(10_000, order)
+
+# Letters as frequent as they are here, of which texts of words are made; docs/SPEED.md has no rows of these.
+ALPHABETS = {
+    'Russian': 'оооееааииннттссррвллкмдпуяыьгзбчйхжшюцщэф',
+    'French': 'eeeeeaaaassiiinnnttrrruulllooodcmpéévqfbghjàxèyêzçôùâûîœ',
+    'Chinese': '的一是不了在人有我他这个们中来上大为和国地到以说时要就出会可也你对生能',
+}
+
+
+def words(alphabet, size):
+    """A text of words of two to nine letters, with spaces and commas."""
+    letters = random.Random(8949)
+    parts = []
+    while size > 0:
+        one = ''.join(letters.choices(alphabet, k=letters.randrange(2, 10)))
+        parts.append(one + letters.choice([' ', ' ', ' ', ', ']))
+        size -= len(parts[-1].encode())
+    return text(''.join(parts))
+
+
+WORDS = {
+    f'a text of 8 MiB, words in {tongue}': lambda alphabet=alphabet: words(alphabet, 8 << 20)
+    for tongue, alphabet in ALPHABETS.items()
+}

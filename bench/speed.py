@@ -78,7 +78,7 @@ def row(name, tasks, peers, item, measure):
 def table(word, measure, unit):
     print(f'| shape | read, {unit} | Rust crate | libcbor | and written | Rust crate | libcbor |')
     print('|---|---|---|---|---|---|---|')
-    for shape, make in shapes.SHAPES.items():
+    for shape, make in (shapes.SHAPES | shapes.WORDS).items():
         if word in shape:
             item = make()
             print(row(shape, (READ, READ_AND_WRITE), (CRATE, LIBCBOR), item, measure), flush=True)
