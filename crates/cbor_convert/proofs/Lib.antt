@@ -7,3 +7,4 @@ pub mod CanonicalReadings
 pub mod NoTags
 pub mod Tags
 pub mod PeekedTags
+pub mod TagFaults

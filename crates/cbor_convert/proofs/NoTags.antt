@@ -123,7 +123,7 @@ no_tag_item f l levels (b ∷ bs) rest w n q begins is =
 
 -- ---- a tag whose head can't be read
 
-tag_byte : (b : ℕ) → begins_tag b ≡ true → (b / 32 ≡ 6) × (b % 32 < 28)
+pub tag_byte : (b : ℕ) → begins_tag b ≡ true → (b / 32 ≡ 6) × (b % 32 < 28)
 tag_byte b is = by (ltb b 0xc0) (ltb b 0xdc) refl refl is
   where
     by : (x y : Bool) → ltb b 0xc0 ≡ x → ltb b 0xdc ≡ y → cond x false (cond y true false) ≡ true → (b / 32 ≡ 6) × (b % 32 < 28)
@@ -135,12 +135,12 @@ tag_byte b is = by (ltb b 0xc0) (ltb b 0xdc) refl refl is
         (omega (arith, from, to), omega (arith, from, to))
 
 module _ {Item Items Pairs : Type 0} (m : Reading Item Items Pairs) where
-  item_first : (levels b : ℕ) (mid : List ℕ) → item_at m levels (b ∷ mid) ≡ after_first m (inside m levels) b mid
+  pub item_first : (levels b : ℕ) (mid : List ℕ) → item_at m levels (b ∷ mid) ≡ after_first m (inside m levels) b mid
   unfolding item_at item_by byte_at
   item_first zero b mid = refl
   item_first (suc levels) b mid = refl
 
-  tag_first : (inner : Option (List ℕ → Reads Item)) (b : ℕ) (mid : List ℕ) → b / 32 ≡ 6 → b % 32 < 28 → after_first m inner b mid ≡ (number_behind (b % 32) mid >>= (λ n. tag_at m inner (width_of (b % 32)) n.0 n.1))
+  pub tag_first : (inner : Option (List ℕ → Reads Item)) (b : ℕ) (mid : List ℕ) → b / 32 ≡ 6 → b % 32 < 28 → after_first m inner b mid ≡ (number_behind (b % 32) mid >>= (λ n. tag_at m inner (width_of (b % 32)) n.0 n.1))
   unfolding after_first content_at
   tag_first inner b mid six low = rw six refl
 

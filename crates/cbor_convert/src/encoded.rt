@@ -11,8 +11,10 @@ ghost use Rattle.cbor_io.specs.Error.{IsOutOfMemory};
 ghost use Rattle.cbor_read.specs.Source.{start_of_slice};
 ghost use Rattle.cbor_decode.specs.FirstRefusal.{ReportsFirst};
 ghost use Rattle.cbor_decode_as.specs.Takes.{WhereTotal};
+ghost use Rattle.cbor_de.specs.Calls.{reports_any};
 ghost use Rattle.cbor_de.specs.Forms.{MayReport};
-ghost use Rattle.cbor_de.specs.Whole.{RefusesUnread, from_slice_asks, from_slice_context};
+ghost use Rattle.cbor_de.specs.Whole.{RefusesUnread, ReportsOwn};
+ghost use Rattle.cbor_de.specs.Whole.{from_slice_asks, from_slice_context};
 ghost use Rattle.cbor_ser.specs.Written.{IsNotWritten};
 ghost use Rattle.cbor_convert.specs.Encoded.{encoding};
 
@@ -99,6 +101,8 @@ impl<T> Encoded<T> {
             (IsOutOfMemory e ⊎ ReportsFirst (limits_of None) (encoding self.now) e)) }
         ensures fault { IfErr result (λ e. WhereTotal T.passes_over (IsOutOfMemory e
             ⊎ RefusesUnread (T.reads from_slice_context) None (encoding self.now) e)) }
+        ensures own_fault { IfErr result (ReportsOwn
+            (reports_any T.passes_over T.total T.reports_faults) None (encoding self.now)) }
         ensures form { IfErr result
             (MayReport T.wrong_forms all_formats (start_of_slice (encoding self.now) None)) }
     {
@@ -120,6 +124,8 @@ impl<T> Readable for Encoded<T> {
     ghost reads = { λ c r e. ⟦<Required<24, ByteBuf> as Readable>⟧.reads c r e.tagged };
 
     ghost wrong_forms = { ⟦<Required<24, ByteBuf> as Readable>⟧.wrong_forms };
+
+    ghost reports_faults = { ⟦<Required<24, ByteBuf> as Readable>⟧.reports_faults };
 }
 
 impl<'de, R: Read<'de>, T> Deserialize<'de, R> for Encoded<T> {

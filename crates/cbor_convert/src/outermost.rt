@@ -4,10 +4,9 @@ ghost use Rattle.std.specs.Prelude.{◌≡◌, ◌≢◌, IfOk, IfErr, IfSome, I
 ghost use Rattle.cbor_io.specs.Error.{code_of};
 ghost use Rattle.cbor_io.specs.declared.error.ErrorCode.TheVariants.{OutOfMemory};
 ghost use Rattle.cbor_decode.specs.Gives.{ReportsNoForm};
-ghost use Rattle.cbor_decode_as.specs.Takes.{formats_of, ReportsFault};
-ghost use Rattle.cbor_decode_as.specs.Tags.{tag_head_at, LevelsBehind, TagIs};
+ghost use Rattle.cbor_decode_as.specs.Takes.{formats_of};
+ghost use Rattle.cbor_decode_as.specs.Tags.{ReadsTag, LevelsBehind, TagIs};
 ghost use Rattle.cbor_convert.specs.Tagged.{StandsNoTag};
-ghost use Rattle.cbor_de.specs.Calls as call;
 
 use cbor_de::Deserializer;
 use cbor_de::steps::{error_of, peek};
@@ -17,14 +16,13 @@ use cbor_read::Source;
 /// Takes the head of the tag that the item at the front is within, and goes one level in, as
 /// `Deserializer::read_tag` does; None, which takes nothing, where it is within none.
 pub(crate) fn outermost<R: Source>(de: &mut Deserializer<R>) -> Result<Option<u64>>
+    ensures read { ReadsTag R.refusals de.old.decoder.levels (R.source de.old.decoder.source)
+        (R.source de.new.decoder.source) result }
     ensures item { IfOk result (λ o. IfSome o (λ n.
         TagIs (formats_of de.old.decoder.formats) de.old.decoder.levels n
         (R.source de.old.decoder.source) (R.source de.new.decoder.source))) }
     ensures none { IfOk result (λ o. IfNone o
         (StandsNoTag (R.source de.old.decoder.source) (R.source de.new.decoder.source))) }
-    ensures refused { IfErr result (ReportsFault R.refusals (λ l. tag_head_at de.old.decoder.levels)
-        (R.source de.old.decoder.source)) }
-    ensures took { IfErr result (λ e. call.TookSome R.source de.old de.new) }
     ensures no_form { IfErr result (λ e. ReportsNoForm (code_of e)) }
     ensures memory { IfErr result (λ e. code_of e ≢ OutOfMemory) }
     ensures levels { LevelsBehind result de.old.decoder.levels de.new.decoder.levels }

@@ -48,12 +48,15 @@ impl<const N: u64, T: Serialize> Serialize for Required<N, T> {
 impl<const N: u64, T: Readable> Readable for Required<N, T> {
     ghost use Rattle.std.specs.Prelude.{Some};
     ghost use Rattle.cbor_convert.specs.Tagged.{IsTagged, WithinTag};
+    ghost use Rattle.cbor_de.specs.Calls.{reports_any};
 
     ghost reads = { λ c r x. IsTagged (T.reads c) r (Some N) x.0 };
 
     ghost asks_memory = { λ a. WithinTag (T.asks_memory a) };
 
     ghost wrong_forms = { T.wrong_forms };
+
+    ghost reports_faults = { reports_any T.passes_over T.total T.reports_faults };
 }
 
 impl<'de, const N: u64, R: Read<'de>, T: Deserialize<'de, R>> Deserialize<'de, R>

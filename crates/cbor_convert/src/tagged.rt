@@ -80,6 +80,7 @@ impl<T: Serialize> Serialize for Tagged<T> {
 /// The outermost tag and what is within it, or an item without a tag.
 impl<T: Readable> Readable for Tagged<T> {
     ghost use Rattle.cbor_convert.specs.Tagged.{IsTagged, WithinTag};
+    ghost use Rattle.cbor_de.specs.Calls.{reports_any};
 
     ghost reads = { λ c r t. IsTagged (T.reads c) r t.tag t.value };
 
@@ -88,6 +89,8 @@ impl<T: Readable> Readable for Tagged<T> {
     ghost asks_memory = { λ a. WithinTag (T.asks_memory a) };
 
     ghost wrong_forms = { T.wrong_forms };
+
+    ghost reports_faults = { reports_any T.passes_over T.total T.reports_faults };
 }
 
 impl<'de, R: Read<'de>, T: Deserialize<'de, R>> Deserialize<'de, R> for Tagged<T> {

@@ -68,12 +68,15 @@ impl Serialize for BigUint {
 
 /// The byte string within tag 2.
 impl Readable for BigUint {
+    ghost use Rattle.std.specs.Prelude.{true};
     ghost use Rattle.cbor_convert.specs.Tagged.{IsTagged};
     ghost use Rattle.cbor_de.specs.Forms.{never};
 
     ghost reads = { λ c r b. IsTagged (⟦<ByteBuf as Readable>⟧.reads c) r (Some 2) b.0 };
 
     ghost wrong_forms = { never };
+
+    ghost reports_faults = { true };
 }
 
 impl<'de, R: Read<'de>> Deserialize<'de, R> for BigUint {
@@ -161,6 +164,7 @@ impl Serialize for BigInt {
 
 /// The byte string within tag 2 or 3.
 impl Readable for BigInt {
+    ghost use Rattle.std.specs.Prelude.{true};
     ghost use Rattle.cbor_convert.specs.Tagged.{IsTagged};
     ghost use Rattle.cbor_de.specs.Forms.{never};
 
@@ -168,6 +172,8 @@ impl Readable for BigInt {
         (Some (sign_tag b.negative)) b.bytes };
 
     ghost wrong_forms = { never };
+
+    ghost reports_faults = { true };
 }
 
 impl<'de, R: Read<'de>> Deserialize<'de, R> for BigInt {

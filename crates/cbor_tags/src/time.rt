@@ -45,13 +45,15 @@ impl Serialize for DateTime {
 
 /// The text within tag 0.
 impl Readable for DateTime {
-    ghost use Rattle.std.specs.Prelude.{Some};
+    ghost use Rattle.std.specs.Prelude.{Some, true};
     ghost use Rattle.cbor_convert.specs.Tagged.{IsTagged};
     ghost use Rattle.cbor_de.specs.Forms.{never};
 
     ghost reads = { λ c r t. IsTagged (⟦<String as Readable>⟧.reads c) r (Some 0) t.0 };
 
     ghost wrong_forms = { never };
+
+    ghost reports_faults = { true };
 }
 
 impl<'de, R: Read<'de>> Deserialize<'de, R> for DateTime {

@@ -49,6 +49,8 @@ impl Readable for Reading {
     ghost reads = { ⟦<Self as ReadBy<<Self as Schema>::Parts>>⟧.reads };
 
     ghost wrong_forms = { ⟦<Self as ReadBy<<Self as Schema>::Parts>>⟧.wrong_forms };
+
+    ghost reports_faults = { ⟦<Self as ReadBy<<Self as Schema>::Parts>>⟧.reports_faults };
 }
 
 impl<'de, R: Read<'de>> Deserialize<'de, R> for Reading {

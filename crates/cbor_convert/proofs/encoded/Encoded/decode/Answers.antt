@@ -8,8 +8,9 @@ use Rattle.cbor_io.specs.Error.{IsOutOfMemory}
 use Rattle.cbor_read.specs.Source.{start_of_slice}
 use Rattle.cbor_decode.specs.FirstRefusal.{ReportsFirst}
 use Rattle.cbor_decode_as.specs.Takes.{WhereTotal}
+use Rattle.cbor_de.specs.Calls.{reports_any}
 use Rattle.cbor_de.specs.Forms.{MayReport}
-use Rattle.cbor_de.specs.Whole.{RefusesUnread, from_slice_asks, from_slice_context}
+use Rattle.cbor_de.specs.Whole.{RefusesUnread, ReportsOwn, from_slice_asks, from_slice_context}
 use Rattle.cbor_convert.proofs.encoded.Encoded.decode.Goals as goal
 
 -- what `from_slice` promises of the bytes that `as_slice` gives
@@ -37,6 +38,11 @@ returns-clause-first g c =
 pub returns-clause-fault : goal.returns-clause-fault
 returns-clause-fault g c =
     subst (λ (bs : List ℕ). IfErr c.from_slice.result (λ e. WhereTotal g.T.Readable.passes_over (IsOutOfMemory e ⊎ RefusesUnread (g.T.Readable.reads from_slice_context) None bs e))) c.as_slice.ensures c.from_slice.ensures.fault
+
+pub returns-clause-own_fault : goal.returns-clause-own_fault
+returns-clause-own_fault g c =
+    let t = g.T.Readable in
+    subst (λ (bs : List ℕ). IfErr c.from_slice.result (ReportsOwn (reports_any t.passes_over t.total t.reports_faults) None bs)) c.as_slice.ensures c.from_slice.ensures.own_fault
 
 pub returns-clause-form : goal.returns-clause-form
 returns-clause-form g c =

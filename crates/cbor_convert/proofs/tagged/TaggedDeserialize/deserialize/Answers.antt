@@ -6,12 +6,16 @@ use Rattle.cbor_read.specs.Source.{Input, asks_for}
 use Rattle.cbor_io.specs.Error.{code_of, offset_of}
 use Rattle.cbor_decode.specs.Gives.{Step}
 use Rattle.cbor_decode.specs.declared.formats.Formats.{Formats}
-use Rattle.cbor_decode_as.specs.Takes.{raws, context, formats_of, IsRead, MemoryFor, IsNotRead, Refuses, ReportsItem}
+use Rattle.cbor_decode_as.specs.Takes.{raws, context, formats_of, IsRead, MemoryFor, IsNotRead, ItemFault, Refuses, ReportsItem}
 use Rattle.cbor_convert.specs.declared.tagged.Tagged.{Tagged}
 use Rattle.cbor_convert.proofs.Tags.{tag_read, tag_asks, tag_unread, untagged_asks, untagged_taken, untagged_refused, head_refused, tag_reported, untagged_reported, head_reported}
 use Rattle.cbor_decode.proofs.facts.Steps.{took_same}
-use Rattle.cbor_decode_as.proofs.facts.Refusals.{item_total, refuses_on}
+use Rattle.cbor_convert.proofs.TagFaults.{head_fault, tag_fault, untagged_fault}
+use Rattle.cbor_decode_as.proofs.facts.Refusals.{always, item_total, refuses_on}
+use Rattle.cbor_de.specs.Calls.{reports_any}
+use Rattle.cbor_de.proofs.facts.Faults.{item_fault}
 use Rattle.cbor_de.proofs.facts.Forms.{later_in}
+use Rattle.cbor_de.proofs.facts.Readings.{where_map}
 use Rattle.cbor_convert.proofs.tagged.TaggedDeserialize.deserialize.Goals as goal
 
 pub leave_tag-requires : goal.leave_tag-requires
@@ -91,7 +95,7 @@ returns-in-Err-deserialize-clause-read g c =
 pub returns-in-Err-clause-read : goal.returns-in-Err-clause-read
 returns-in-Err-clause-read g c =
     let old = c.args.de.now in
-    head_refused (g.T.Readable.reads (context old.decoder.formats g.R.Source.lends)) (λ (w : Tagged g.row.T.Denot). w.tag) (λ (w : Tagged g.row.T.Denot). w.value) (formats_of old.decoder.formats) old.decoder.levels g.R.Source.refusals (g.R.Source.source old.decoder.source) c.in-Err.e c.in-Err.ensures.took c.in-Err.ensures.refused
+    head_refused (g.T.Readable.reads (context old.decoder.formats g.R.Source.lends)) (λ (w : Tagged g.row.T.Denot). w.tag) (λ (w : Tagged g.row.T.Denot). w.value) (formats_of old.decoder.formats) old.decoder.levels g.R.Source.refusals (g.R.Source.source old.decoder.source) c.in-Err.e c.in-Err.ensures.read.0 c.in-Err.ensures.read.1
 
 pub returns-in-Err-value-clause-fault : goal.returns-in-Err-value-clause-fault
 returns-in-Err-value-clause-fault g c =
@@ -125,7 +129,40 @@ returns-in-Err-deserialize-clause-fault g c =
 pub returns-in-Err-clause-fault : goal.returns-in-Err-clause-fault
 returns-in-Err-clause-fault g c =
     let old = c.args.de.now in
-    head_reported g.T.Readable.total g.R.Source.refusals (formats_of old.decoder.formats) old.decoder.levels (g.R.Source.source old.decoder.source) c.in-Err.e c.in-Err.ensures.refused
+    head_reported g.T.Readable.total g.R.Source.refusals (formats_of old.decoder.formats) old.decoder.levels (g.R.Source.source old.decoder.source) c.in-Err.e c.in-Err.ensures.read.1
+
+-- ---- the fault of the bytes
+
+pub returns-in-Err-value-clause-own_fault : goal.returns-in-Err-value-clause-own_fault
+returns-in-Err-value-clause-own_fault g c =
+    let old = c.args.de.now.decoder in
+    let mid = c.outermost.new.de.decoder in
+    let m = g.R.Source.source mid.source in
+    let t = g.T.Readable in
+    let e = c.in-Err-value.e in
+    let one = rw c.in-Ok-Some.field-0-is at c.in-Ok-Some.ensures.levels in
+    let head = rw c.in-Ok-Some.field-0-is at c.in-Ok-Some.ensures.read in
+    where_map (reports_any t.passes_over t.total t.reports_faults) (tag_fault g.R.Source.refusals old.levels (g.R.Source.source old.source) e mid.levels c.in-Ok-Some.tag one m head)
+    (item_fault g.R.Source.refusals m e mid.levels (formats_of mid.formats) t.passes_over t.total t.reports_faults c.in-Err-value.ensures.fault c.in-Err-value.ensures.own_fault)
+
+pub returns-in-Err-deserialize-clause-own_fault : goal.returns-in-Err-deserialize-clause-own_fault
+returns-in-Err-deserialize-clause-own_fault g c =
+    let old = c.args.de.now.decoder in
+    let mid = c.outermost.new.de.decoder in
+    let s = g.R.Source.source old.source in
+    let m = g.R.Source.source mid.source in
+    let t = g.T.Readable in
+    let e = c.in-Err-deserialize.e in
+    let levels : mid.levels ≡ old.levels = rw c.in-Ok-None.field-0-is at c.in-Ok-None.ensures.levels in
+    let none : StandsNoTag s m = rw c.in-Ok-None.field-0-is at c.in-Ok-None.ensures.none in
+    let there = item_fault g.R.Source.refusals m e mid.levels (formats_of mid.formats) t.passes_over t.total t.reports_faults c.in-Err-deserialize.ensures.fault c.in-Err-deserialize.ensures.own_fault in
+    where_map (reports_any t.passes_over t.total t.reports_faults) (λ here. untagged_fault g.R.Source.refusals old.levels s e m none (subst (λ (n : ℕ). ItemFault g.R.Source.refusals n m e) levels here)) there
+
+pub returns-in-Err-clause-own_fault : goal.returns-in-Err-clause-own_fault
+returns-in-Err-clause-own_fault g c =
+    let old = c.args.de.now.decoder in
+    let t = g.T.Readable in
+    always (reports_any t.passes_over t.total t.reports_faults) (head_fault g.R.Source.refusals old.levels (g.R.Source.source old.source) c.in-Err.e c.in-Err.ensures.read.1)
 
 -- ---- a wrong form
 
