@@ -69,21 +69,27 @@ def picture(shapes):
     return '\n'.join(parts + ['</svg>']) + '\n'
 
 
+def of_the_tables():
+    with open(TABLES, encoding='utf-8') as tables:
+        return picture(list(rows(tables.read().split('\n'))))
+
+
+def draw():
+    with open(PICTURE, 'w', encoding='utf-8') as stored:
+        stored.write(of_the_tables())
+
+
 def main():
     parser = argparse.ArgumentParser(description=__doc__)
     parser.add_argument('--check', action='store_true', help='say whether the picture is that of the tables')
-    chosen = parser.parse_args()
-    with open(TABLES, encoding='utf-8') as tables:
-        drawn = picture(list(rows(tables.read().split('\n'))))
-    if chosen.check:
-        with open(PICTURE, encoding='utf-8') as stored:
-            same = stored.read() == drawn
-        if not same:
-            print('docs/speed.svg is not that of docs/SPEED.md: run bench/picture.py')
-        return 0 if same else 1
-    with open(PICTURE, 'w', encoding='utf-8') as stored:
-        stored.write(drawn)
-    return 0
+    if not parser.parse_args().check:
+        draw()
+        return 0
+    with open(PICTURE, encoding='utf-8') as stored:
+        same = stored.read() == of_the_tables()
+    if not same:
+        print('docs/speed.svg is not that of docs/SPEED.md: run bench/picture.py')
+    return 0 if same else 1
 
 
 if __name__ == '__main__':

@@ -1,6 +1,7 @@
 #!/usr/bin/env python3
-"""Counts anew the instructions that docs/SPEED.md gives of this library, and says where they are others;
-see README.md."""
+"""Counts anew the instructions that docs/SPEED.md gives of this library, and says where they are others, or
+writes the page's tables; see README.md."""
+import argparse
 import concurrent.futures
 import itertools
 import os
@@ -64,23 +65,72 @@ def list_counted(name):
     return [lists.each(lists.OURS, task, kind, item) for task in lists.SLICES.values()]
 
 
-def main():
-    if shutil.which('valgrind') is None:
-        print('said: not compared, for valgrind is not here')
-        return 0
+def counted(shape_rows, list_rows):
+    """What these give for the rows of the first table, and for those of the second."""
     first, second = said()
     with concurrent.futures.ThreadPoolExecutor(os.cpu_count()) as pool:
-        of_lists = pool.map(list_counted, [name for name, *_ in second])
-        of_shapes = pool.map(shape_counted, shapes.SHAPES)
-        counted = [*itertools.chain.from_iterable(of_shapes), *of_lists]
+        of_lists = pool.map(list_rows, [name for name, *_ in second])
+        of_shapes = pool.map(shape_rows, shapes.SHAPES)
+        return [*first, *second], [*itertools.chain.from_iterable(of_shapes), *of_lists]
+
+
+def shape_cells(shape):
+    """The rows' cells: what it takes, and how many times as much the peers take."""
+    item = shapes.SHAPES[shape]()
+    peers = [((0, 1), (speed.CRATE, speed.LIBCBOR)), ((2, 3), (speed.CRATE,))]
+    rows = [speed.row('', *it, item, speed.millions) for it in peers[: 2 if shape == shapes.RECORDS else 1]]
+    return [row.split('|')[2:-1] for row in rows]
+
+
+def list_cells(name):
+    kind, make = lists.LISTS[LISTS[name]]
+    item = lists.array(make() for _ in range(lists.COUNT))
+    cells = []
+    for task in lists.SLICES.values():
+        ours, theirs = (lists.each(program, task, kind, item) for program in (lists.OURS, lists.CRATE))
+        cells += [f' {ours:.1f} ', f' {theirs / ours:.2f} ']
+    return cells
+
+
+def write():
+    """Writes the page's tables anew, beside the peers, and draws them."""
+    with open(picture.TABLES, encoding='utf-8') as page:
+        lines = page.read().split('\n')
+    _, cells = counted(shape_cells, list_cells)
+    rows = iter(cells)
+    for heading, *_ in picture.DRAWN:
+        at = lines.index(next(line for line in lines if line.startswith(heading))) + 2
+        while lines[at].startswith('|'):
+            lines[at] = '|'.join(['', lines[at].split('|')[1], *next(rows), ''])
+            at += 1
+    with open(picture.TABLES, 'w', encoding='utf-8') as page:
+        page.write('\n'.join(lines))
+    picture.draw()
+
+
+def compare():
+    named, counts = counted(shape_counted, list_counted)
     others = [
         f'said: {name}: {said:.2f} on the page, {count:.2f} counted'
-        for (name, *says), counts in zip([*first, *second], counted, strict=True)
+        for (name, *says), counts in zip(named, counts, strict=True)
         for said, count in zip(says, counts)
         if abs(count - said) > NEAR * said + 0.05
     ]
-    print('\n'.join(others) or f'said: {2 * len(counted)} counts, as docs/SPEED.md says')
+    print('\n'.join(others) or f'said: {2 * len(counts)} counts, as docs/SPEED.md says')
     return 1 if others else 0
+
+
+def main():
+    parser = argparse.ArgumentParser(description=__doc__)
+    parser.add_argument('--write', action='store_true', help='count beside the peers, write the tables, draw them')
+    chosen = parser.parse_args()
+    if chosen.write:
+        write()
+        return 0
+    if shutil.which('valgrind') is None:
+        print('said: not compared, for valgrind is not here')
+        return 0
+    return compare()
 
 
 if __name__ == '__main__':
