@@ -10,6 +10,7 @@ use Rattle.cbor_io.specs.declared.read_error.ReadErrorCode.{ReadErrorCode}
 use Rattle.cbor_read.specs.Source.{Input}
 use Rattle.cbor_decode.specs.Gives.{Step}
 use Rattle.cbor_decode.specs.Steps as step
+use Rattle.cbor_decode.specs.declared.cursor.Collection.{Collection}
 use Rattle.cbor_decode.specs.declared.cursor.Remaining.{Remaining}
 use Rattle.cbor_decode.specs.declared.cursor.Remaining.TheVariants.{Counted}
 use Rattle.cbor_decode.specs.declared.head.Head.{Head}
@@ -17,6 +18,7 @@ use Rattle.cbor_decode_as.specs.Accesses as arrays
 use Rattle.cbor_decode_as.specs.Accesses.{most_left}
 use Rattle.cbor_decode_as.specs.Begins as begins
 use Rattle.cbor_decode_as.specs.BeginsEnum as begins_enum
+use Rattle.cbor_decode_as.specs.Collections as collections
 use Rattle.cbor_decode_as.specs.MapAccesses as maps
 use Rattle.cbor_decode_as.specs.Takes as input
 use Rattle.cbor_decode_as.specs.Takes.{WhateverTaken, WhereTotal, formats_of, raws}
@@ -36,31 +38,18 @@ Rests seen outer old last =
     × (last.decoder.formats ≡ old.decoder.formats)
     × step.TookSome seen old.decoder last.decoder
 
--- the heads of an array were taken
-abbrev pub OpensArray : {R : Type 0} → (R → Input) → Deserializer R → Deserializer R → Remaining
-    → Type 0
-OpensArray seen old now remaining =
+-- the heads of an array or a map were taken
+abbrev pub Opens : {R : Type 0} → (R → Input) → Collection → Deserializer R → Deserializer R
+    → Remaining → Type 0
+Opens seen of old now remaining =
     let f = formats_of old.decoder.formats in
-    Step (seen old.decoder.source) (seen now.decoder.source) (λ l bs rest. arrays.IsArrayHead f l (item_at (raws f l) old.decoder.levels bs) now.decoder.levels remaining rest)
+    Step (seen old.decoder.source) (seen now.decoder.source) (λ l bs rest. collections.IsHeadOf of f l (item_at (raws f l) old.decoder.levels bs) now.decoder.levels remaining rest)
 
-abbrev pub RefusesArray : {R : Type 0} → (R → Input) → (ReadErrorCode → Bool) → Deserializer R
-    → Error → Type 0
-RefusesArray seen refusals old e =
+abbrev pub RefusesOpening : {R : Type 0} → (R → Input) → Collection → (ReadErrorCode → Bool)
+    → Deserializer R → Error → Type 0
+RefusesOpening seen of refusals old e =
     let s = seen old.decoder.source in
-    WhateverTaken s (arrays.RefusesArray refusals (formats_of old.decoder.formats) old.decoder.levels s) e
-
--- the heads of a map were taken
-abbrev pub OpensMap : {R : Type 0} → (R → Input) → Deserializer R → Deserializer R → Remaining
-    → Type 0
-OpensMap seen old now remaining =
-    let f = formats_of old.decoder.formats in
-    Step (seen old.decoder.source) (seen now.decoder.source) (λ l bs rest. maps.IsMapHead f l (item_at (raws f l) old.decoder.levels bs) now.decoder.levels remaining rest)
-
-abbrev pub RefusesMap : {R : Type 0} → (R → Input) → (ReadErrorCode → Bool) → Deserializer R
-    → Error → Type 0
-RefusesMap seen refusals old e =
-    let s = seen old.decoder.source in
-    WhateverTaken s (maps.RefusesMap refusals (formats_of old.decoder.formats) old.decoder.levels s) e
+    WhateverTaken s (collections.RefusesHeadOf of refusals (formats_of old.decoder.formats) old.decoder.levels s) e
 
 -- such a head alone was taken, whatever follows it
 abbrev pub Begins : {R : Type 0} → (R → Input) → (Remaining → Head) → Deserializer R

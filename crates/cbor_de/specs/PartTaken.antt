@@ -11,10 +11,12 @@ use Rattle.cbor_read.specs.Source.{Input, Lends}
 use Rattle.cbor_decode.specs.Gives.{ReportsIo, Reports}
 use Rattle.cbor_decode.specs.declared.cursor.Remaining.{Remaining}
 use Rattle.cbor_decode.specs.declared.cursor.Remaining.TheVariants.{Counted, ToBreak}
-use Rattle.cbor_decode_as.specs.Accesses.{TakesEnd, TakesNext}
-use Rattle.cbor_decode_as.specs.MapAccesses.{TakesKey, TakesMapEnd}
+use Rattle.cbor_decode_as.specs.Accesses.{TakesNext}
+use Rattle.cbor_decode_as.specs.Collections.{TakesEndOf}
+use Rattle.cbor_decode_as.specs.MapAccesses.{TakesKey}
 use Rattle.cbor_decode_as.specs.Takes.{ExcusedBy, lending}
 use Rattle.cbor_de.specs.ItemTaken.{BeginsAsNone, TookItem}
+use Rattle.cbor_decode.specs.declared.cursor.Collection.TheVariants as collection
 
 -- ---- the end
 
@@ -43,13 +45,13 @@ IsEndTaken refusals remaining s t bytes r = MatchResult r (λ u. TookEnd remaini
 abbrev pub ArrayEndTaken : Type 0
 ArrayEndTaken = (refusals : ReadErrorCode → Bool) (remaining : Remaining) (s t : Input)
     (bytes : List ℕ) (r : Result (Unit {0}) Error)
-    → Reports s bytes → TakesEnd refusals remaining s t r
+    → Reports s bytes → TakesEndOf collection.Array refusals remaining s t r
     → IsEndTaken refusals remaining s t bytes r
 
 abbrev pub MapEndTaken : Type 0
 MapEndTaken = (refusals : ReadErrorCode → Bool) (remaining : Remaining) (s t : Input)
     (bytes : List ℕ) (r : Result (Unit {0}) Error)
-    → Reports s bytes → TakesMapEnd refusals remaining s t r
+    → Reports s bytes → TakesEndOf collection.Map refusals remaining s t r
     → IsEndTaken refusals remaining s t bytes r
 
 -- ---- the next item of an array

@@ -15,8 +15,8 @@ use crate::de::Deserializer;
 use crate::deserialize::{Deserialize, Readable};
 use crate::ready::read_gathered;
 use crate::sequence::invalid_length;
-use cbor_decode::Remaining;
-use cbor_decode_as::collection::{array_head, end_array, more_items};
+use cbor_decode::{Collection, Remaining};
+use cbor_decode_as::collection::{self, more_items};
 use cbor_io::error::Result;
 use cbor_read::Read;
 
@@ -68,7 +68,7 @@ pub(crate) fn read_array<'de, R: Read<'de>, T: ReadTuple<'de, R>>(
     ensures settings { SameSettings de.old.decoder de.new.decoder }
 {
     let outer = de.decoder.levels;
-    let remaining = match array_head(&mut de.decoder) {
+    let remaining = match collection::head(&mut de.decoder, Collection::Array) {
         Ok(remaining) => remaining,
         Err(e) => return Err(e),
     };
@@ -143,7 +143,7 @@ impl<'de, R: Read<'de>> ReadItems<'de, R> for () {
         _before: usize,
         _expected: usize,
     ) -> Result<()> {
-        end_array(&mut de.decoder, remaining)
+        collection::end(&mut de.decoder, remaining, Collection::Array)
     }
 }
 

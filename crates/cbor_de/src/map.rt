@@ -12,17 +12,18 @@ ghost use Rattle.cbor_io.specs.declared.error.Error.{Error};
 ghost use Rattle.cbor_decode.specs.declared.head.Head.TheVariants as kind;
 ghost use Rattle.cbor_decode_as.specs.Accesses.{size_of};
 ghost use Rattle.cbor_decode_as.specs.Cases.{ReportsBadKey};
-ghost use Rattle.cbor_decode_as.specs.MapAccesses.{TakesMapEnd};
+ghost use Rattle.cbor_decode_as.specs.Collections.{TakesEndOf};
 ghost use Rattle.cbor_decode_as.specs.Takes.{context, formats_of};
 ghost use Rattle.cbor_de.specs.Forms.{MayReportKey};
 ghost use Rattle.cbor_de.specs.contracts.de.Deserializer.{the_row};
 ghost use Rattle.cbor_de.specs.Access as access;
 ghost use Rattle.cbor_de.specs.Calls as call;
+ghost use Rattle.cbor_decode.specs.declared.cursor.Collection.TheVariants as of;
 
 use crate::de::Deserializer;
 use crate::deserialize::Deserialize;
-use cbor_decode::Remaining;
-use cbor_decode_as::collection::{end_map, map_head, more_pairs};
+use cbor_decode::{Collection, Remaining};
+use cbor_decode_as::collection::{self, more_pairs};
 use cbor_io::error::{Error, Result};
 use cbor_read::{Read, Source};
 
@@ -45,8 +46,8 @@ impl<R: Source> Deserializer<R> {
         ensures* rests { sem 𝓛 (RestsIfErr (the_row R.row) self.entry (λ m. m.de.ghost_name) result
             (λ last. access.Rests R.source self.old.decoder.levels self.old last)) }
         ensures same_reference { IfOk result (λ m. m.de.ghost_name ≡ self.entry.ghost_name) }
-        ensures head { IfOk result (λ m. access.OpensMap R.source self.old m.de.now m.remaining) }
-        ensures refused { IfErr result (access.RefusesMap R.source R.refusals self.old) }
+        ensures head { IfOk result (λ m. access.Opens R.source of.Map self.old m.de.now m.remaining) }
+        ensures refused { IfErr result (access.RefusesOpening R.source of.Map R.refusals self.old) }
         // The head alone, whatever follows it.
         ensures opened { IfOk result
             (λ m. access.Begins R.source kind.Map self.old m.de.now m.remaining) }
@@ -62,7 +63,7 @@ impl<R: Source> Deserializer<R> {
         ensures due { IfOk result (λ m. m.value_due ≡ false) }
     {
         let outer = self.decoder.levels;
-        let remaining = map_head(&mut self.decoder)?;
+        let remaining = collection::head(&mut self.decoder, Collection::Map)?;
         Ok(MapAccess {
             de: self,
             remaining,
@@ -220,7 +221,7 @@ impl<'a, R: Source> MapAccess<'a, R> {
     pub fn end(self) -> Result<()>
         requires live { self.de.now.decoder.levels < self.outer }
         requires due { self.value_due ≡ false }
-        ensures read { TakesMapEnd R.refusals self.entry.remaining
+        ensures read { TakesEndOf of.Map R.refusals self.entry.remaining
             (R.source self.entry.de.now.decoder.source) (R.source self.exit.0.now.decoder.source)
             result }
         ensures no_form { IfErr result (λ e. ReportsNoForm (code_of e)) }
@@ -234,7 +235,7 @@ impl<'a, R: Source> MapAccess<'a, R> {
             value_due: _,
         } = self;
         de.decoder.levels = outer;
-        end_map(&mut de.decoder, remaining)
+        collection::end(&mut de.decoder, remaining, Collection::Map)
     }
 
     /// Leaves the map for this error, which it passes on.

@@ -11,7 +11,8 @@ ghost use Rattle.cbor_decode.specs.Gives.{ReportsNoKey, ReportsWhy};
 ghost use Rattle.cbor_decode.specs.Heads.{remaining_of};
 ghost use Rattle.cbor_model.specs.Reader.{next_at};
 ghost use Rattle.cbor_model.specs.Refusal.{end_in_array};
-ghost use Rattle.cbor_decode_as.specs.Accesses.{TakesEnd, size_of, TakesMore};
+ghost use Rattle.cbor_decode_as.specs.Accesses.{size_of, TakesMore};
+ghost use Rattle.cbor_decode_as.specs.Collections.{TakesEndOf};
 ghost use Rattle.cbor_decode_as.specs.Takes.{IsMessage, OnceMade, context};
 ghost use Rattle.cbor_de.specs.ItemLists.{ReportsShort, length_text};
 ghost use Rattle.cbor_de.specs.contracts.de.Deserializer.{the_row};
@@ -20,11 +21,12 @@ ghost use Rattle.cbor_decode.specs.declared.head.Head.TheVariants as kind;
 ghost use Rattle.cbor_decode.specs.Decoder.{SameSettings};
 ghost use Rattle.cbor_de.specs.Access as access;
 ghost use Rattle.cbor_de.specs.Calls as call;
+ghost use Rattle.cbor_decode.specs.declared.cursor.Collection.TheVariants as of;
 
 use crate::de::Deserializer;
 use crate::deserialize::Deserialize;
 use cbor_decode::{Collection, Done, Refused, Remaining};
-use cbor_decode_as::collection::{array_head, end_array, more_items};
+use cbor_decode_as::collection::{self, more_items};
 use cbor_io::error::{Error, Result};
 use cbor_read::{Read, Source};
 use std::alloc::Global;
@@ -50,8 +52,8 @@ impl<R: Source> Deserializer<R> {
         ensures* rests { sem 𝓛 (RestsIfErr (the_row R.row) self.entry (λ s. s.de.ghost_name) result
             (λ last. access.Rests R.source self.old.decoder.levels self.old last)) }
         ensures same_reference { IfOk result (λ s. s.de.ghost_name ≡ self.entry.ghost_name) }
-        ensures head { IfOk result (λ s. access.OpensArray R.source self.old s.de.now s.remaining) }
-        ensures refused { IfErr result (access.RefusesArray R.source R.refusals self.old) }
+        ensures head { IfOk result (λ s. access.Opens R.source of.Array self.old s.de.now s.remaining) }
+        ensures refused { IfErr result (access.RefusesOpening R.source of.Array R.refusals self.old) }
         // The head alone, whatever follows it.
         ensures opened { IfOk result
             (λ s. access.Begins R.source kind.Array self.old s.de.now s.remaining) }
@@ -66,7 +68,7 @@ impl<R: Source> Deserializer<R> {
             (λ s. call.Within self.old.decoder.levels s.outer self.old s.de.now) }
     {
         let outer = self.decoder.levels;
-        let remaining = array_head(&mut self.decoder)?;
+        let remaining = collection::head(&mut self.decoder, Collection::Array)?;
         Ok(SeqAccess {
             de: self,
             remaining,
@@ -228,7 +230,7 @@ impl<'a, R: Source> SeqAccess<'a, R> {
     /// where there is none.
     pub fn end(self) -> Result<()>
         requires { self.de.now.decoder.levels < self.outer }
-        ensures read { TakesEnd R.refusals self.entry.remaining
+        ensures read { TakesEndOf of.Array R.refusals self.entry.remaining
             (R.source self.entry.de.now.decoder.source) (R.source self.exit.0.now.decoder.source)
             result }
         ensures no_form { IfErr result (λ e. ReportsNoForm (code_of e)) }
@@ -241,7 +243,7 @@ impl<'a, R: Source> SeqAccess<'a, R> {
             outer,
         } = self;
         de.decoder.levels = outer;
-        end_array(&mut de.decoder, remaining)
+        collection::end(&mut de.decoder, remaining, Collection::Array)
     }
 
     /// Leaves the array for this error, which it passes on.

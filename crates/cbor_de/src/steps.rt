@@ -8,30 +8,35 @@ ghost use Rattle.std.specs.Prelude.{IfOk, IfErr, IfSome, MatchOption, Ok, OnOk, 
 ghost use Rattle.cbor_io.specs.Error.{code_of};
 ghost use Rattle.cbor_io.specs.ReadError.{why};
 ghost use Rattle.cbor_io.specs.declared.read_error.ReadErrorCode.TheVariants as reading;
-ghost use Rattle.cbor_read.specs.Source.{Input, RefusedByte, Stays, TookKept};
+ghost use Rattle.cbor_read.specs.Source.{Input, RefusedByte, Stays, TookKept, asks_for};
 ghost use Rattle.cbor_decode.specs.Decoder.{SameSettings};
 ghost use Rattle.cbor_decode.specs.Gives.{IsErrorOf, ReportsNoForm};
 ghost use Rattle.cbor_decode.specs.declared.head.Head.TheVariants as kind;
 ghost use Rattle.cbor_decode.specs.declared.refusal.Refused.TheVariants.{Kept};
 ghost use Rattle.cbor_decode_as.specs.Identifiers.{texts};
 ghost use Rattle.cbor_decode_as.specs.Contents.{ContentFault, PartsFault};
+ghost use Rattle.cbor_decode_as.specs.Contents.{MemoryForNull, MemoryForParts};
+ghost use Rattle.cbor_decode_as.specs.Strings.{IsAskedString};
 ghost use Rattle.cbor_decode_as.specs.Takes.{formats_of, ItemFault};
 ghost use Rattle.cbor_decode_as.specs.Begins.{BeginningFault, MemoryForOther, TakesBeginning};
-ghost use Rattle.cbor_decode_as.specs.BeginsEnum.{TakesPartsHead, TakesVariantHead};
+ghost use Rattle.cbor_decode_as.specs.BeginsEnum.{MemoryForVariant, TakesPartsHead};
+ghost use Rattle.cbor_decode_as.specs.BeginsEnum.{TakesVariantHead};
 ghost use Rattle.cbor_io.specs.declared.error.ErrorCode.TheVariants.{ArrayTooLong, OutOfMemory};
 ghost use Rattle.cbor_decode_as.specs.Cases.{FormAlone, IsEnumCode, HasCase};
 ghost use Rattle.cbor_decode_as.specs.Cases.{enum_cases, unit_cases};
 ghost use Rattle.cbor_decode_as.specs.Enums.{IsNothing};
-ghost use Rattle.cbor_decode_as.specs.MapAccesses.{TakesMapEnd, TakesMapHead};
+ghost use Rattle.cbor_decode_as.specs.Collections.{TakesEndOf, TakesHeadOf};
 ghost use Rattle.cbor_decode_as.specs.Variants.{IsEntered, IsInside, TakesContent, TakesParts};
 ghost use Rattle.cbor_decode_as.specs.Variants.{TakesVariant, ReportsAlone, alone_text};
 ghost use Rattle.cbor_pushed.specs.ItemAtFront.{HasNoItem};
 ghost use Rattle.cbor_pushed.specs.Scanned.{Follows};
 ghost use Rattle.cbor_raw.specs.Gathered.{GathersNone, TakesMore};
 ghost use Rattle.cbor_de.specs.Calls as call;
+ghost use Rattle.cbor_decode.specs.declared.cursor.Collection.TheVariants as of;
 
 use crate::de::Deserializer;
-use cbor_decode::Remaining;
+use cbor_decode::{Collection, Remaining};
+use cbor_decode_as::collection;
 use cbor_decode_as::variant::Form;
 use cbor_io::error::{Error, Result};
 use cbor_pushed::Scan;
@@ -85,7 +90,7 @@ pub fn leave_to<R>(de: &mut Deserializer<R>, outer: u64)
 /// Takes the tags and the head of a map, and goes one level in, as [`Deserializer::map`] does.
 #[inline(always)]
 pub fn map_head<R: Source>(de: &mut Deserializer<R>) -> Result<Remaining>
-    ensures read { TakesMapHead R.refusals (formats_of de.old.decoder.formats)
+    ensures read { TakesHeadOf of.Map R.refusals (formats_of de.old.decoder.formats)
         de.old.decoder.levels (R.source de.old.decoder.source)
         (R.source de.new.decoder.source) de.new.decoder.levels result }
     ensures taken { OnOk result (call.Advances R.source de.old de.new) }
@@ -101,20 +106,20 @@ pub fn map_head<R: Source>(de: &mut Deserializer<R>) -> Result<Remaining>
     ensures outer { OnErr result (de.new.decoder.levels ≡ de.old.decoder.levels) }
     ensures formats { de.new.decoder.formats ≡ de.old.decoder.formats }
 {
-    cbor_decode_as::collection::map_head(&mut de.decoder)
+    collection::head(&mut de.decoder, Collection::Map)
 }
 
 /// Takes the end of a map of which so much remains. Pairs that weren't read are refused with
 /// `TrailingData`.
 #[inline(always)]
 pub fn end_map<R: Source>(de: &mut Deserializer<R>, remaining: Remaining) -> Result<()>
-    ensures read { TakesMapEnd R.refusals remaining
+    ensures read { TakesEndOf of.Map R.refusals remaining
         (R.source de.old.decoder.source) (R.source de.new.decoder.source) result }
     ensures no_form { IfErr result (λ e. ReportsNoForm (code_of e)) }
     ensures memory { IfErr result (λ e. code_of e ≢ OutOfMemory) }
     ensures settings { SameSettings de.old.decoder de.new.decoder }
 {
-    cbor_decode_as::collection::end_map(&mut de.decoder, remaining)
+    collection::end(&mut de.decoder, remaining, Collection::Map)
 }
 
 // ---- enums
@@ -137,6 +142,9 @@ pub fn variant_head<'de, R: Read<'de>>(
         de.new.decoder.levels result }
     ensures fault { IfErr result (ItemFault R.refusals de.old.decoder.levels
         (R.source de.old.decoder.source)) }
+    ensures memory { IfErr result (MemoryForVariant
+        (IsAskedString (asks_for R.refusals R.lends)) (formats_of de.old.decoder.formats)
+        (texts names.now) de.old.decoder.levels (R.source de.old.decoder.source)) }
     ensures cases { IfErr result (λ e. HasCase (R.source de.old.decoder.source) e
         (enum_cases (formats_of de.old.decoder.formats)
         de.old.decoder.levels)) }
@@ -188,6 +196,8 @@ pub fn parts<R: Source>(de: &mut Deserializer<R>, form: Form) -> Result<Remainin
         de.new.decoder.levels result }
     ensures fault { IfErr result (PartsFault R.refusals de.old.decoder.levels form
         (R.source de.old.decoder.source)) }
+    ensures memory { IfErr result (MemoryForParts de.old.decoder.levels form
+        (R.source de.old.decoder.source)) }
     ensures alone { IfErr result (ReportsAlone (alone_text (codes "tuple")) form) }
     ensures no_form { IfErr result (λ e. ReportsNoForm (code_of e)) }
     ensures inside { IfOk result (λ r. IsEntered form de.old.decoder.levels
@@ -211,6 +221,8 @@ pub fn no_part<R: Source>(de: &mut Deserializer<R>, form: Form) -> Result<()>
         (unit_cases form)) }
     ensures fault { IfErr result (ContentFault R.refusals de.old.decoder.levels form
         (R.source de.old.decoder.source)) }
+    ensures memory { IfErr result (MemoryForNull (formats_of de.old.decoder.formats)
+        de.old.decoder.levels form (R.source de.old.decoder.source)) }
     ensures code { IfErr result (λ e. FormAlone ArrayTooLong (code_of e)) }
     ensures settings { SameSettings de.old.decoder de.new.decoder }
 {

@@ -16,7 +16,7 @@ ghost use Rattle.cbor_decode_as.specs.Accesses.{size_of};
 ghost use Rattle.cbor_io.specs.declared.error.ErrorCode.TheVariants.{OutOfMemory, WrongStructFormat};
 ghost use Rattle.cbor_decode_as.specs.Cases.{FormAlone, HasCase, ReportsBadKey, key_cases};
 ghost use Rattle.cbor_decode_as.specs.Identifiers.{texts};
-ghost use Rattle.cbor_decode_as.specs.MapAccesses.{TakesMapEnd};
+ghost use Rattle.cbor_decode_as.specs.Collections.{TakesEndOf};
 ghost use Rattle.cbor_decode_as.specs.Strings.{IsAskedString};
 ghost use Rattle.cbor_de.specs.Structs.{IsAny, IsField, place_in, missing_text, duplicate_text};
 ghost use Rattle.cbor_decode_as.specs.Takes.{IsRead, IsNotRead, Refuses};
@@ -25,13 +25,14 @@ ghost use Rattle.cbor_de.specs.Forms.{key_form};
 ghost use Rattle.cbor_de.specs.contracts.de.Deserializer.{the_row};
 ghost use Rattle.cbor_de.specs.Access as access;
 ghost use Rattle.cbor_de.specs.Calls as call;
+ghost use Rattle.cbor_decode.specs.declared.cursor.Collection.TheVariants as of;
 
 use crate::de::Deserializer;
 use crate::deserialize::Deserialize;
 use crate::field::{Field, duplicate_field, missing_field};
 use crate::types::IgnoredAny;
-use cbor_decode::Remaining;
-use cbor_decode_as::collection::{end_map, map_head};
+use cbor_decode::{Collection, Remaining};
+use cbor_decode_as::collection;
 use cbor_decode_as::identifier::unnamed;
 use cbor_io::error::{Error, Result};
 use cbor_parts::FieldKeys;
@@ -63,8 +64,8 @@ impl<R: Source> Deserializer<R> {
             (λ last. access.Rests R.source self.old.decoder.levels self.old last)) }
         ensures same_reference { IfOk result (λ m.
             m.de.ghost_name ≡ self.entry.ghost_name) }
-        ensures head { IfOk result (λ m. access.OpensMap R.source self.old m.de.now m.remaining) }
-        ensures refused { IfErr result (access.RefusesMap R.source R.refusals self.old) }
+        ensures head { IfOk result (λ m. access.Opens R.source of.Map self.old m.de.now m.remaining) }
+        ensures refused { IfErr result (access.RefusesOpening R.source of.Map R.refusals self.old) }
         // The head alone, whatever follows it.
         ensures opened { IfOk result
             (λ m. access.Begins R.source kind.Map self.old m.de.now m.remaining) }
@@ -81,7 +82,7 @@ impl<R: Source> Deserializer<R> {
         ensures names { IfOk result (λ m. texts m.names.now ≡ texts names.now) }
     {
         let outer = self.decoder.levels;
-        let remaining = map_head(&mut self.decoder)?;
+        let remaining = collection::head(&mut self.decoder, Collection::Map)?;
         Ok(StructAccess {
             de: self,
             remaining,
@@ -400,7 +401,7 @@ impl<'a, R: Source> StructAccess<'a, R> {
     pub fn end(self) -> Result<()>
         requires live { self.de.now.decoder.levels < self.outer }
         requires due { self.value_due ≡ false }
-        ensures read { TakesMapEnd R.refusals self.entry.remaining
+        ensures read { TakesEndOf of.Map R.refusals self.entry.remaining
             (R.source self.entry.de.now.decoder.source)
             (R.source self.exit.0.now.decoder.source) result }
         ensures no_form { IfErr result (λ e. ReportsNoForm (code_of e)) }
@@ -415,6 +416,6 @@ impl<'a, R: Source> StructAccess<'a, R> {
             names: _,
         } = self;
         de.decoder.levels = outer;
-        end_map(&mut de.decoder, remaining)
+        collection::end(&mut de.decoder, remaining, Collection::Map)
     }
 }

@@ -25,8 +25,8 @@ ghost use Rattle.cbor_de.specs.Calls as call;
 use crate::de::Deserializer;
 use crate::deserialize::Deserialize;
 use crate::sequence::SeqAccess;
-use cbor_decode::Remaining;
-use cbor_decode_as::collection::end_array;
+use cbor_decode::{Collection, Remaining};
+use cbor_decode_as::collection;
 use cbor_decode_as::content::{expect_item, no_part, parts};
 use cbor_decode_as::variant::{Form, variant_head};
 use cbor_io::error::{Error, ErrorCode, Result};
@@ -107,7 +107,7 @@ impl<'de, R: Read<'de>> Deserializer<R> {
     {
         expect_item(&mut self.decoder, &mut remaining, ErrorCode::ArrayTooShort)?;
         let item = T::deserialize(self)?;
-        end_array(&mut self.decoder, remaining)?;
+        collection::end(&mut self.decoder, remaining, Collection::Array)?;
         Ok(item)
     }
 }

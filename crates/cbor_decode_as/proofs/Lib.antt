@@ -1,10 +1,12 @@
 pub mod heads
 pub mod numbers
 pub mod texts
+pub mod collections
 pub mod arrays
 pub mod maps
 pub mod enums
 pub mod refused
 pub mod JoinedLengths
+pub mod RawFaults
 pub mod RawItems
 pub mod facts

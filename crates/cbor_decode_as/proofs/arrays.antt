@@ -1,5 +1,4 @@
 -- Arrays and tuples: their heads, their items, their ends.
-pub mod ArrayHeads
 pub mod Begins
 pub mod Nexts
 pub mod Sequences

@@ -4,6 +4,7 @@ pub mod Items
 pub mod Refusals
 pub mod Nulls
 pub mod Strings
+pub mod Collections
 pub mod Arrays
 pub mod Tuples
 pub mod Maps

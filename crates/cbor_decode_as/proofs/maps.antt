@@ -1,5 +1,4 @@
 -- Maps: their heads, keys and pairs.
-pub mod MapHeads
 pub mod NextKeys
 pub mod PairsRead
 pub mod BadKeys

@@ -2,57 +2,26 @@
 use Rattle.std.specs.Prelude.{◌≡◌, ◌⊎◌, ℕ, ◌^◌, ◌-◌, Bool, List, Option, Some, None, Result}
 use Rattle.std.specs.Prelude.{Ok, Err}
 use Rattle.cbor_model.specs.Formats.{Formats}
-use Rattle.cbor_model.specs.Head.{HeadWidth}
-use Rattle.cbor_model.specs.Raw.{Raw, Raws, Length, array}
-use Rattle.cbor_model.specs.Readable.{PassesTags}
+use Rattle.cbor_model.specs.Raw.{Raw, Raws, array}
 use Rattle.cbor_model.specs.Refusal.{end_in_array}
-use Rattle.cbor_model.specs.Reader.{Reads, ◌>>=◌, next_at, parts_at, items_of, item_at}
+use Rattle.cbor_model.specs.Reader.{Reads, next_at, parts_at, items_of, item_at}
 use Rattle.cbor_model.specs.Reader as reader
 use Rattle.cbor_io.specs.declared.error.Error.{Error}
 use Rattle.cbor_io.specs.declared.error.ErrorCode.TheVariants.{OutOfMemory}
 use Rattle.cbor_io.specs.declared.read_error.ReadErrorCode.{ReadErrorCode}
 use Rattle.cbor_io.specs.Error.{code_of, offset_of}
-use Rattle.cbor_read.specs.Source.{Input, TookSome}
-use Rattle.cbor_decode.specs.Cursor.{behind_next, ended_at}
+use Rattle.cbor_read.specs.Source.{Input}
+use Rattle.cbor_decode.specs.Cursor.{behind_next}
 use Rattle.cbor_decode.specs.Gives.{Limits, Reports, Step, limits}
 use Rattle.cbor_decode.specs.Heads.{remaining_of}
 use Rattle.cbor_decode.specs.declared.cursor.Remaining.{Remaining}
 use Rattle.cbor_decode.specs.declared.cursor.Remaining.TheVariants.{Counted, ToBreak}
-use Rattle.cbor_decode_as.specs.Arrays.{AsArray}
-use Rattle.cbor_decode_as.specs.TaggedHeads.{in_tags}
-use Rattle.cbor_decode_as.specs.Takes.{raws, IsRead, IsNotRead, Refuses, ReportsFault}
+use Rattle.cbor_decode_as.specs.Takes.{raws, IsRead, Refuses, ReportsFault}
 
 -- the items of an array that remain, where so many levels are left for each
 abbrev pub items_at : Formats → Limits → ℕ → reader.Remaining → List ℕ → Reads Raws
 items_at f l levels remaining bs =
     parts_at (items_of (raws f l) (item_at (raws f l) levels)) remaining bs
-
--- an array of this length, of the items that are read
-abbrev pub array_of : Length → Reads Raws → Reads Raw
-array_of n items = items >>= (λ rs. Ok (array n rs.0, rs.1))
-
--- The item that is read is an array within tags. Of its items so much remains, and so many levels are
--- left for each.
-pub record IsArrayHead (f : Formats) (l : Limits) (read : Reads Raw) (left : ℕ) (remaining : Remaining) (rest : List ℕ) : Type 0 where
-  pub tags : List (HeadWidth × ℕ)
-  pub len : Length
-  pub is : read ≡ in_tags tags (array_of len (items_at f l left (remaining_of remaining) rest))
-
--- an array is read as its items
-abbrev pub IsItems : Raw → Raws → Type 0
-IsItems = AsArray (λ rs items. rs ≡ items)
-
--- no array is at the front
-abbrev pub RefusesArray : (ReadErrorCode → Bool) → Formats → ℕ → Input → Input → Error → Type 0
-RefusesArray refusals f levels s t e = Refuses refusals s t (code_of e) (offset_of e)
-    (λ l bs. IsNotRead (PassesTags IsItems) (item_at (raws f l) levels bs))
-
--- The head of the array at the front was taken; or no array is there.
-abbrev pub TakesHead : (ReadErrorCode → Bool) → Formats → ℕ → Input → Input → ℕ
-    → Result Remaining Error → Type 0
-TakesHead refusals f levels s t left (Ok remaining) = Step s t
-    (λ l bs rest. IsArrayHead f l (item_at (raws f l) levels bs) left remaining rest)
-TakesHead refusals f levels s t left (Err e) = RefusesArray refusals f levels s t e
 
 -- ---- one item after the other
 
@@ -121,14 +90,6 @@ NextFault refusals fault remaining s e =
 abbrev pub most_left : Remaining → Input → ℕ
 most_left (Counted n) s = n
 most_left ToBreak s = 2 ^ 64 - s.offset
-
--- The array's end was taken; or the error reports why not, and some bytes were taken.
-abbrev pub TakesEnd : (ReadErrorCode → Bool) → Remaining → Input → Input → Result (Unit {0}) Error
-    → Type 0
-TakesEnd refusals remaining s t (Ok u) =
-    Step s t (λ l bs rest. ended_at end_in_array (remaining_of remaining) bs ≡ Ok (tt, rest))
-TakesEnd refusals remaining s t (Err e) =
-    TookSome s t × ReportsFault refusals (λ l. ended_at end_in_array (remaining_of remaining)) s e
 
 -- what is left of a declared count
 abbrev pub size_of : Remaining → Option ℕ

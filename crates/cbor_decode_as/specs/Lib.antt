@@ -8,6 +8,7 @@ pub mod Begins
 pub mod BeginsEnum
 pub mod DecoderCalls
 pub mod Cases
+pub mod Collections
 pub mod Contents
 pub mod Enums
 pub mod Identifiers

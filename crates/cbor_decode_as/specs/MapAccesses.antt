@@ -2,9 +2,7 @@
 use Rattle.std.specs.Prelude.{◌≡◌, ◌⊎◌, ℕ, Bool, true, false, List, Option, Some, None}
 use Rattle.std.specs.Prelude.{Result, Ok, Err}
 use Rattle.cbor_model.specs.Formats.{Formats, may_begin_key}
-use Rattle.cbor_model.specs.Head.{HeadWidth}
-use Rattle.cbor_model.specs.Raw.{Raw, RawPairs, Length, map}
-use Rattle.cbor_model.specs.Readable.{PassesTags}
+use Rattle.cbor_model.specs.Raw.{Raw, RawPairs, map}
 use Rattle.cbor_model.specs.Refusal.{end_in_map}
 use Rattle.cbor_model.specs.Reader.{Reads, ◌>>=◌, next_at, key_at, parts_at, pairs_of, item_at}
 use Rattle.cbor_model.specs.Reader as reader
@@ -12,46 +10,16 @@ use Rattle.cbor_io.specs.declared.error.Error.{Error}
 use Rattle.cbor_io.specs.declared.error.ErrorCode.TheVariants.{OutOfMemory}
 use Rattle.cbor_io.specs.declared.read_error.ReadErrorCode.{ReadErrorCode}
 use Rattle.cbor_io.specs.Error.{code_of, offset_of}
-use Rattle.cbor_read.specs.Source.{Input, TookSome}
-use Rattle.cbor_decode.specs.Cursor.{ended_at}
+use Rattle.cbor_read.specs.Source.{Input}
 use Rattle.cbor_decode.specs.Gives.{Limits, Step, Reports, limits}
 use Rattle.cbor_decode.specs.Heads.{remaining_of}
 use Rattle.cbor_decode.specs.declared.cursor.Remaining.{Remaining}
-use Rattle.cbor_decode_as.specs.Maps.{AsMap}
-use Rattle.cbor_decode_as.specs.TaggedHeads.{in_tags}
-use Rattle.cbor_decode_as.specs.Takes.{raws, IsRead, IsNotRead, Refuses, ReportsFault}
+use Rattle.cbor_decode_as.specs.Takes.{raws, IsRead, Refuses, ReportsFault}
 
 -- the pairs of a map that remain, where so many levels are left for each key and each value
 abbrev pub pairs_at : Formats → Limits → ℕ → reader.Remaining → List ℕ → Reads RawPairs
 pairs_at f l levels remaining bs =
     parts_at (pairs_of (raws f l) (item_at (raws f l) levels)) remaining bs
-
--- a map of this length, of the pairs that are read
-abbrev pub map_of : Length → Reads RawPairs → Reads Raw
-map_of n pairs = pairs >>= (λ rs. Ok (map n rs.0, rs.1))
-
--- The item that is read is a map within tags. Of its pairs so much remains, and so many levels are
--- left for each key and each value.
-pub record IsMapHead (f : Formats) (l : Limits) (read : Reads Raw) (left : ℕ) (remaining : Remaining) (rest : List ℕ) : Type 0 where
-  pub tags : List (HeadWidth × ℕ)
-  pub len : Length
-  pub is : read ≡ in_tags tags (map_of len (pairs_at f l left (remaining_of remaining) rest))
-
--- a map is read as its pairs
-abbrev pub IsPairs : Raw → RawPairs → Type 0
-IsPairs = AsMap (λ rs pairs. rs ≡ pairs)
-
--- no map is at the front
-abbrev pub RefusesMap : (ReadErrorCode → Bool) → Formats → ℕ → Input → Input → Error → Type 0
-RefusesMap refusals f levels s t e = Refuses refusals s t (code_of e) (offset_of e)
-    (λ l bs. IsNotRead (PassesTags IsPairs) (item_at (raws f l) levels bs))
-
--- The head of the map at the front was taken; or no map is there.
-abbrev pub TakesMapHead : (ReadErrorCode → Bool) → Formats → ℕ → Input → Input → ℕ
-    → Result Remaining Error → Type 0
-TakesMapHead refusals f levels s t left (Ok remaining) = Step s t
-    (λ l bs rest. IsMapHead f l (item_at (raws f l) levels bs) left remaining rest)
-TakesMapHead refusals f levels s t left (Err e) = RefusesMap refusals f levels s t e
 
 -- ---- one pair after the other
 
@@ -137,11 +105,3 @@ abbrev pub KeyFault : (ReadErrorCode → Bool) → (Input → Error → Type 0) 
 KeyFault refusals fault f remaining s e =
     ReportsFault refusals (λ l. pair_front f (remaining_of remaining)) s e
     ⊎ KeyComes remaining s (λ t. fault t e)
-
--- The map's end was taken; or the error reports why not, and some bytes were taken.
-abbrev pub TakesMapEnd : (ReadErrorCode → Bool) → Remaining → Input → Input
-    → Result (Unit {0}) Error → Type 0
-TakesMapEnd refusals remaining s t (Ok u) =
-    Step s t (λ l bs rest. ended_at end_in_map (remaining_of remaining) bs ≡ Ok (tt, rest))
-TakesMapEnd refusals remaining s t (Err e) =
-    TookSome s t × ReportsFault refusals (λ l. ended_at end_in_map (remaining_of remaining)) s e

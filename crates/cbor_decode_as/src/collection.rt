@@ -8,7 +8,8 @@ ghost use Rattle.cbor_decode.specs.Cursor.{Counts};
 ghost use Rattle.cbor_decode.specs.Gives.{ReportsNoForm, ReportsNoMemory, ReportsWhy, IsAt};
 ghost use Rattle.cbor_decode.specs.Gives.{IsErrorOf};
 ghost use Rattle.cbor_decode.specs.Heads.{remaining_of};
-ghost use Rattle.cbor_decode_as.specs.Accesses.{TakesHead, TakesMore, TakesEnd};
+ghost use Rattle.cbor_decode.specs.Heads.{HeadGives, opening_at};
+ghost use Rattle.cbor_decode_as.specs.Accesses.{TakesMore};
 ghost use Rattle.cbor_decode_as.specs.Begins.{BeginningFault, MemoryForOther, TakesBeginning};
 ghost use Rattle.cbor_decode_as.specs.Takes.{OnceMade, ReportsFault, formats_of};
 ghost use Rattle.cbor_model.specs.Formats.{may_begin_key};
@@ -18,9 +19,11 @@ ghost use Rattle.cbor_decode.specs.declared.refusal.Refused.TheVariants.{Kept};
 ghost use Rattle.cbor_io.specs.declared.error.Error.{Error};
 ghost use Rattle.cbor_io.specs.declared.error.ErrorCode.TheVariants.{OutOfMemory};
 ghost use Rattle.cbor_decode_as.specs.Cases.{HasCase, ReportsBadKey, key_cases};
-ghost use Rattle.cbor_decode_as.specs.MapAccesses.{TakesMapHead, TakesMorePairs, TakesMapEnd};
+ghost use Rattle.cbor_decode_as.specs.Collections.{TakesEndOf, TakesHeadOf, head_of};
+ghost use Rattle.cbor_decode_as.specs.MapAccesses.{TakesMorePairs};
 ghost use Rattle.cbor_decode_as.specs.MapAccesses.{key_front, pair_front};
-ghost use Rattle.cbor_decode.specs.declared.head.Head.TheVariants as kind;
+ghost use Rattle.cbor_decode.specs.declared.cursor.Remaining.{Remaining};
+ghost use Rattle.cbor_decode.specs.declared.cursor.Remaining.TheVariants.{Counted};
 ghost use Rattle.cbor_io.specs.declared.read_error.ReadErrorCode.TheVariants as reading;
 ghost use Rattle.cbor_decode.specs.Steps as step;
 
@@ -29,15 +32,16 @@ use cbor_decode::{Collection, Decoder, Done, Head, Remaining};
 use cbor_io::error::Result;
 use cbor_read::{ReadErrorCode, Source};
 
-/// Takes the head of an array of up to 23 items that is at hand, without tags, and goes one level in.
-/// None where another head comes, no byte is at hand, or no level is left; then nothing is taken.
+/// Takes the head of an array of up to 23 items, or of a map of as many pairs, that is at hand, without
+/// tags, and goes one level in. None where another head comes, no byte is at hand, or no level is left;
+/// then nothing is taken.
 #[inline(always)]
-pub fn array_at_hand<R: Source>(decoder: &mut Decoder<R>) -> Option<Remaining>
+pub fn head_at_hand<R: Source>(decoder: &mut Decoder<R>, of: Collection) -> Option<Remaining>
     ensures read { MatchOption result (R.source decoder.new.source ≡ R.source decoder.old.source)
-        (λ remaining. TakesHead R.refusals (formats_of decoder.old.formats)
+        (λ remaining. TakesHeadOf of R.refusals (formats_of decoder.old.formats)
         decoder.old.levels (R.source decoder.old.source) (R.source decoder.new.source)
         decoder.new.levels (Ok remaining)) }
-    ensures opened { IfSome result (λ remaining. TakesBeginning kind.Array R.refusals
+    ensures opened { IfSome result (λ remaining. TakesBeginning (head_of of) R.refusals
         decoder.old.levels (R.source decoder.old.source) (R.source decoder.new.source)
         decoder.new.levels (Ok remaining)) }
     ensures taken { OnSome result (step.Advances R.source decoder.old decoder.new) }
@@ -48,7 +52,7 @@ pub fn array_at_hand<R: Source>(decoder: &mut Decoder<R>) -> Option<Remaining>
     if decoder.levels == 0 {
         return None;
     }
-    match decoder.short_array() {
+    match short(decoder, of) {
         Some(n) => {
             decoder.levels -= 1;
             Some(Remaining::Counted(n))
@@ -57,48 +61,63 @@ pub fn array_at_hand<R: Source>(decoder: &mut Decoder<R>) -> Option<Remaining>
     }
 }
 
-/// Takes the tags and the head of an array, and goes one level in.
+// Takes the head of a short one, and returns how many items or pairs it has. The level stays.
+#[inline(always)]
+fn short<R: Source>(decoder: &mut Decoder<R>, of: Collection) -> Option<u64>
+    ensures read { MatchOption result (R.source decoder.new.source ≡ R.source decoder.old.source)
+        (λ n. HeadGives R.refusals opening_at (R.source decoder.old.source)
+        (R.source decoder.new.source) decoder.new.refusal (Ok (head_of of (Counted n)))) }
+    ensures taken { OnSome result (step.Advances R.source decoder.old decoder.new) }
+    ensures settings { SameSettings decoder.old decoder.new }
+{
+    match of {
+        Collection::Array => decoder.short_array(),
+        Collection::Map => decoder.short_map(),
+    }
+}
+
+/// Takes the tags and the head of an array or a map, and goes one level in.
 ///
-/// An item of another kind is refused with `invalid type: expected an array`, and an array for
+/// An item of another kind is refused with `invalid type: expected an array`, or `a map`, and one for
 /// which no level is left with `RecursionLimitExceeded`. No level is entered then.
 #[inline(always)]
-pub fn array_head<R: Source>(decoder: &mut Decoder<R>) -> Result<Remaining>
-    ensures read { TakesHead R.refusals (formats_of decoder.old.formats)
+pub fn head<R: Source>(decoder: &mut Decoder<R>, of: Collection) -> Result<Remaining>
+    ensures read { TakesHeadOf of R.refusals (formats_of decoder.old.formats)
         decoder.old.levels (R.source decoder.old.source) (R.source decoder.new.source)
         decoder.new.levels result }
-    ensures opened { TakesBeginning kind.Array R.refusals decoder.old.levels
+    ensures opened { TakesBeginning (head_of of) R.refusals decoder.old.levels
         (R.source decoder.old.source) (R.source decoder.new.source)
         decoder.new.levels result }
     ensures taken { OnOk result (step.Advances R.source decoder.old decoder.new) }
     ensures no_form { IfErr result (λ e. ReportsNoForm (code_of e)) }
-    ensures fault { IfErr result (BeginningFault kind.Array R.refusals decoder.old.levels
+    ensures fault { IfErr result (BeginningFault (head_of of) R.refusals decoder.old.levels
         (R.source decoder.old.source)) }
-    ensures memory { IfErr result (MemoryForOther kind.Array decoder.old.levels
+    ensures memory { IfErr result (MemoryForOther (head_of of) decoder.old.levels
         (R.source decoder.old.source)) }
     ensures inside { IfOk result (λ r. decoder.new.levels < decoder.old.levels) }
     ensures outer { OnErr result (decoder.new.levels ≡ decoder.old.levels) }
     ensures formats { decoder.new.formats ≡ decoder.old.formats }
 {
-    match array_at_hand(decoder) {
+    match head_at_hand(decoder, of) {
         Some(remaining) => Ok(remaining),
-        None => array_head_slow(decoder),
+        None => head_slow(decoder, of),
     }
 }
 
 // The same where no such head is at hand.
 #[inline(never)]
-fn array_head_slow<R: Source>(decoder: &mut Decoder<R>) -> Result<Remaining>
-    ensures read { TakesHead R.refusals (formats_of decoder.old.formats)
+fn head_slow<R: Source>(decoder: &mut Decoder<R>, of: Collection) -> Result<Remaining>
+    ensures read { TakesHeadOf of R.refusals (formats_of decoder.old.formats)
         decoder.old.levels (R.source decoder.old.source) (R.source decoder.new.source)
         decoder.new.levels result }
-    ensures opened { TakesBeginning kind.Array R.refusals decoder.old.levels
+    ensures opened { TakesBeginning (head_of of) R.refusals decoder.old.levels
         (R.source decoder.old.source) (R.source decoder.new.source)
         decoder.new.levels result }
     ensures taken { OnOk result (step.Advances R.source decoder.old decoder.new) }
     ensures no_form { IfErr result (λ e. ReportsNoForm (code_of e)) }
-    ensures fault { IfErr result (BeginningFault kind.Array R.refusals decoder.old.levels
+    ensures fault { IfErr result (BeginningFault (head_of of) R.refusals decoder.old.levels
         (R.source decoder.old.source)) }
-    ensures memory { IfErr result (MemoryForOther kind.Array decoder.old.levels
+    ensures memory { IfErr result (MemoryForOther (head_of of) decoder.old.levels
         (R.source decoder.old.source)) }
     ensures inside { IfOk result (λ r. decoder.new.levels < decoder.old.levels) }
     ensures outer { OnErr result (decoder.new.levels ≡ decoder.old.levels) }
@@ -112,16 +131,53 @@ fn array_head_slow<R: Source>(decoder: &mut Decoder<R>) -> Result<Remaining>
             return Err(decoder.error(refused));
         }
     };
-    let Head::Array(remaining) = head else {
-        decoder.levels = outer;
-        return Err(mismatch(decoder, head, "invalid type: expected an array"));
-    };
-    match decoder.enter() {
-        Ok(()) => Ok(remaining),
-        Err(refused) => {
+    match remaining_in(head, of) {
+        Some(remaining) => match decoder.enter() {
+            Ok(()) => Ok(remaining),
+            Err(refused) => {
+                decoder.levels = outer;
+                Err(decoder.error(refused))
+            }
+        },
+        None => {
             decoder.levels = outer;
-            Err(decoder.error(refused))
+            Err(mismatch(decoder, head, expected(of)))
         }
+    }
+}
+
+// How much follows the head, where it is that of such a one.
+fn remaining_in(head: Head, of: Collection) -> Option<Remaining>
+    ensures { MatchOption result ((r : Remaining) → head ≢ head_of of r)
+        (λ remaining. head ≡ head_of of remaining) }
+{
+    match (of, head) {
+        (Collection::Array, Head::Array(remaining)) => Some(remaining),
+        (Collection::Map, Head::Map(remaining)) => Some(remaining),
+        _ => None,
+    }
+}
+
+// The message on an item of another kind.
+fn expected(of: Collection) -> &'static str {
+    match of {
+        Collection::Array => "invalid type: expected an array",
+        Collection::Map => "invalid type: expected a map",
+    }
+}
+
+/// Takes the end of an array or a map of which so much remains. Items or pairs that weren't read are
+/// refused with `TrailingData`.
+pub fn end<R: Source>(decoder: &mut Decoder<R>, remaining: Remaining, of: Collection) -> Result<()>
+    ensures read { TakesEndOf of R.refusals remaining
+        (R.source decoder.old.source) (R.source decoder.new.source) result }
+    ensures no_form { IfErr result (λ e. ReportsNoForm (code_of e)) }
+    ensures memory { IfErr result (λ e. code_of e ≢ OutOfMemory) }
+    ensures settings { SameSettings decoder.old decoder.new }
+{
+    match decoder.end_of(remaining, of) {
+        Ok(()) => Ok(()),
+        Err(refused) => Err(decoder.error(refused)),
     }
 }
 
@@ -141,117 +197,6 @@ pub fn more_items<R: Source>(decoder: &mut Decoder<R>, remaining: &mut Remaining
     match decoder.more(remaining, Collection::Array) {
         Ok(more) => Ok(more),
         Err(refused) => Err(decoder.error(refused)),
-    }
-}
-
-/// Takes the end of an array of which so much remains. Items that weren't read are refused with
-/// `TrailingData`.
-pub fn end_array<R: Source>(decoder: &mut Decoder<R>, remaining: Remaining) -> Result<()>
-    ensures read { TakesEnd R.refusals remaining
-        (R.source decoder.old.source) (R.source decoder.new.source) result }
-    ensures no_form { IfErr result (λ e. ReportsNoForm (code_of e)) }
-    ensures memory { IfErr result (λ e. code_of e ≢ OutOfMemory) }
-    ensures settings { SameSettings decoder.old decoder.new }
-{
-    match decoder.end_of(remaining, Collection::Array) {
-        Ok(()) => Ok(()),
-        Err(refused) => Err(decoder.error(refused)),
-    }
-}
-
-/// Takes the head of a map of up to 23 pairs that is at hand, without tags, and goes one level in.
-/// None where another head comes, no byte is at hand, or no level is left; then nothing is taken.
-#[inline(always)]
-pub fn map_at_hand<R: Source>(decoder: &mut Decoder<R>) -> Option<Remaining>
-    ensures read { MatchOption result (R.source decoder.new.source ≡ R.source decoder.old.source)
-        (λ remaining. TakesMapHead R.refusals (formats_of decoder.old.formats)
-        decoder.old.levels (R.source decoder.old.source) (R.source decoder.new.source)
-        decoder.new.levels (Ok remaining)) }
-    ensures opened { IfSome result (λ remaining. TakesBeginning kind.Map R.refusals
-        decoder.old.levels (R.source decoder.old.source) (R.source decoder.new.source)
-        decoder.new.levels (Ok remaining)) }
-    ensures taken { OnSome result (step.Advances R.source decoder.old decoder.new) }
-    ensures levels { MatchOption result (decoder.new.levels ≡ decoder.old.levels)
-        (λ remaining. decoder.new.levels < decoder.old.levels) }
-    ensures formats { decoder.new.formats ≡ decoder.old.formats }
-{
-    if decoder.levels == 0 {
-        return None;
-    }
-    match decoder.short_map() {
-        Some(n) => {
-            decoder.levels -= 1;
-            Some(Remaining::Counted(n))
-        }
-        None => None,
-    }
-}
-
-/// Takes the tags and the head of a map, and goes one level in.
-///
-/// An item of another kind is refused with `invalid type: expected a map`, and a map for which no
-/// level is left with `RecursionLimitExceeded`. No level is entered then.
-#[inline(always)]
-pub fn map_head<R: Source>(decoder: &mut Decoder<R>) -> Result<Remaining>
-    ensures read { TakesMapHead R.refusals (formats_of decoder.old.formats)
-        decoder.old.levels (R.source decoder.old.source)
-        (R.source decoder.new.source) decoder.new.levels result }
-    ensures opened { TakesBeginning kind.Map R.refusals decoder.old.levels
-        (R.source decoder.old.source) (R.source decoder.new.source)
-        decoder.new.levels result }
-    ensures taken { OnOk result (step.Advances R.source decoder.old decoder.new) }
-    ensures no_form { IfErr result (λ e. ReportsNoForm (code_of e)) }
-    ensures fault { IfErr result (BeginningFault kind.Map R.refusals decoder.old.levels
-        (R.source decoder.old.source)) }
-    ensures memory { IfErr result (MemoryForOther kind.Map decoder.old.levels
-        (R.source decoder.old.source)) }
-    ensures inside { IfOk result (λ r. decoder.new.levels < decoder.old.levels) }
-    ensures outer { OnErr result (decoder.new.levels ≡ decoder.old.levels) }
-    ensures formats { decoder.new.formats ≡ decoder.old.formats }
-{
-    match map_at_hand(decoder) {
-        Some(remaining) => Ok(remaining),
-        None => map_head_slow(decoder),
-    }
-}
-
-// The same where no such head is at hand.
-#[inline(never)]
-fn map_head_slow<R: Source>(decoder: &mut Decoder<R>) -> Result<Remaining>
-    ensures read { TakesMapHead R.refusals (formats_of decoder.old.formats)
-        decoder.old.levels (R.source decoder.old.source)
-        (R.source decoder.new.source) decoder.new.levels result }
-    ensures opened { TakesBeginning kind.Map R.refusals decoder.old.levels
-        (R.source decoder.old.source) (R.source decoder.new.source)
-        decoder.new.levels result }
-    ensures taken { OnOk result (step.Advances R.source decoder.old decoder.new) }
-    ensures no_form { IfErr result (λ e. ReportsNoForm (code_of e)) }
-    ensures fault { IfErr result (BeginningFault kind.Map R.refusals decoder.old.levels
-        (R.source decoder.old.source)) }
-    ensures memory { IfErr result (MemoryForOther kind.Map decoder.old.levels
-        (R.source decoder.old.source)) }
-    ensures inside { IfOk result (λ r. decoder.new.levels < decoder.old.levels) }
-    ensures outer { OnErr result (decoder.new.levels ≡ decoder.old.levels) }
-    ensures formats { decoder.new.formats ≡ decoder.old.formats }
-{
-    let outer = decoder.levels;
-    let head = match tagged_head(decoder) {
-        Ok(head) => head,
-        Err(refused) => {
-            decoder.levels = outer;
-            return Err(decoder.error(refused));
-        }
-    };
-    let Head::Map(remaining) = head else {
-        decoder.levels = outer;
-        return Err(mismatch(decoder, head, "invalid type: expected a map"));
-    };
-    match decoder.enter() {
-        Ok(()) => Ok(remaining),
-        Err(refused) => {
-            decoder.levels = outer;
-            Err(decoder.error(refused))
-        }
     }
 }
 
@@ -333,19 +278,4 @@ pub fn more_pairs<R: Source>(decoder: &mut Decoder<R>, remaining: &mut Remaining
     }
     key_begins(decoder)?;
     Ok(true)
-}
-
-/// Takes the end of a map of which so much remains. Pairs that weren't read are refused with
-/// `TrailingData`.
-pub fn end_map<R: Source>(decoder: &mut Decoder<R>, remaining: Remaining) -> Result<()>
-    ensures read { TakesMapEnd R.refusals remaining
-        (R.source decoder.old.source) (R.source decoder.new.source) result }
-    ensures no_form { IfErr result (λ e. ReportsNoForm (code_of e)) }
-    ensures memory { IfErr result (λ e. code_of e ≢ OutOfMemory) }
-    ensures settings { SameSettings decoder.old decoder.new }
-{
-    match decoder.end_of(remaining, Collection::Map) {
-        Ok(()) => Ok(()),
-        Err(refused) => Err(decoder.error(refused)),
-    }
 }

@@ -19,10 +19,10 @@ ghost use Rattle.cbor_decode_as.specs.Variants.{ExpectsItem, IsEntered, TakesCom
 ghost use Rattle.cbor_decode_as.specs.Variants.{TakesParts, ReportsAlone, alone_text};
 ghost use Rattle.cbor_decode_as.specs.declared.variant.Form.TheVariants.{Array};
 
-use crate::collection::{array_head, end_array};
+use crate::collection;
 use crate::scalar::read_unit;
 use crate::variant::{Form, refuse_here};
-use cbor_decode::{BREAK, Decoder, Done, Remaining};
+use cbor_decode::{BREAK, Collection, Decoder, Done, Remaining};
 use cbor_io::error::{Error, ErrorCode, Result};
 use cbor_read::{ReadErrorCode, Source};
 
@@ -83,7 +83,7 @@ pub fn expect_item<R: Source>(
 /// Takes the content of a variant of several parts up to the first of them.
 ///
 /// An identifier alone is refused with `invalid type: unit variant, expected tuple variant`, and in
-/// a map an item that is no array as [`array_head`] refuses it.
+/// a map an item that is no array as [`head`](collection::head) refuses it.
 pub fn parts<R: Source>(decoder: &mut Decoder<R>, form: Form) -> Result<Remaining>
     ensures read { TakesParts R.refusals (formats_of decoder.old.formats)
         decoder.old.levels form
@@ -104,7 +104,7 @@ pub fn parts<R: Source>(decoder: &mut Decoder<R>, form: Form) -> Result<Remainin
 {
     match form {
         Form::Array(remaining) => Ok(remaining),
-        Form::Map => array_head(decoder),
+        Form::Map => collection::head(decoder, Collection::Array),
         Form::Alone => Err(Error::message(
             decoder.alloc,
             "invalid type: unit variant, expected tuple variant",
@@ -130,7 +130,7 @@ fn only_null<R: Source>(decoder: &mut Decoder<R>, mut remaining: Remaining) -> R
 {
     expect_item(decoder, &mut remaining, ErrorCode::ArrayTooLong)?;
     read_unit(decoder)?;
-    end_array(decoder, remaining)?;
+    collection::end(decoder, remaining, Collection::Array)?;
     Ok(())
 }
 

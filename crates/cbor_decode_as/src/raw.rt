@@ -5,7 +5,7 @@ ghost use Rattle.cbor_model.specs.Encoding.{IsEncoding};
 ghost use Rattle.cbor_model.specs.Raw.{AreBytes};
 ghost use Rattle.cbor_decode.specs.Decoder.{SameSettings, formats_of};
 ghost use Rattle.cbor_decode_as.specs.RawItems.{FindsEnd, IsLentItem, ShowsFront};
-ghost use Rattle.cbor_decode_as.specs.Takes.{context};
+ghost use Rattle.cbor_decode_as.specs.Takes.{ItemFault, context};
 ghost use Rattle.cbor_decode.specs.Steps as step;
 ghost use Rattle.cbor_decode_as.specs.DecoderCalls as call;
 
@@ -103,6 +103,7 @@ fn not_lent<R: Source>(decoder: &mut Decoder<R>, error: Error) -> Error
         (R.at_hand decoder.old.source) }
     ensures read { call.TakesItem R.source R.refusals
         (IsLentItem (context decoder.old.formats R.lends)) decoder.old decoder.new (Err result) }
+    ensures fault { ItemFault R.refusals decoder.old.levels (R.source decoder.old.source) result }
     ensures settings { SameSettings decoder.old decoder.new }
 {
     if error.is_memory() {
@@ -128,6 +129,8 @@ pub fn read_raw<'de, R: Read<'de>>(decoder: &mut Decoder<R>) -> Result<&'de [u8]
         (Ok bytes.now)) }
     ensures refused { IfErr result (λ e. call.TakesItem R.source R.refusals
         (IsLentItem (context decoder.old.formats R.lends)) decoder.old decoder.new (Err e)) }
+    ensures fault { IfErr result (ItemFault R.refusals decoder.old.levels
+        (R.source decoder.old.source)) }
     ensures encodes { IfOk result (λ bytes. IsEncoding bytes.now) }
     ensures taken { OnOk result (step.Advances R.source decoder.old decoder.new) }
     ensures settings { SameSettings decoder.old decoder.new }

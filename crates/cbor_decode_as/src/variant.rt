@@ -25,11 +25,11 @@ ghost use Rattle.cbor_decode_as.specs.declared.variant.Shape.TheVariants as shap
 ghost use Rattle.cbor_decode.specs.Steps as step;
 ghost use Rattle.cbor_decode_as.specs.DecoderCalls as call;
 
-use crate::collection::{array_head, key_begins};
+use crate::collection::{self, key_begins};
 use crate::content::expect_item;
 use crate::identifier::{identifier, unnamed};
 use crate::tags::pass_tags;
-use cbor_decode::{Decoder, Done, Refused, Remaining};
+use cbor_decode::{Collection, Decoder, Done, Refused, Remaining};
 use cbor_io::error::{Error, ErrorCode, Result};
 use cbor_read::{Read, ReadErrorCode, Source};
 
@@ -335,7 +335,7 @@ fn array_variant<'de, R: Read<'de>>(
         decoder.old.levels) }
     ensures formats { decoder.new.formats ≡ decoder.old.formats }
 {
-    let mut remaining = array_head(decoder)?;
+    let mut remaining = collection::head(decoder, Collection::Array)?;
     expect_item(decoder, &mut remaining, ErrorCode::ArrayTooShort)?;
     let index = variant_name(decoder, names)?;
     Ok((index, Form::Array(remaining)))

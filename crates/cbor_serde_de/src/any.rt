@@ -9,7 +9,8 @@ ghost use Rattle.cbor_serde_de.specs.Given.{Given, ReadsAs};
 
 use crate::cbor::Cbor;
 use crate::step_error::Step;
-use cbor_decode_as::collection::{array_head, map_head};
+use cbor_decode::Collection;
+use cbor_decode_as::collection;
 use cbor_decode_as::floats::read_f64;
 use cbor_decode_as::integer::{read_from_zero, read_integer, read_signed};
 use cbor_decode_as::scalar::{read_bool, read_unit};
@@ -108,7 +109,7 @@ impl<'i> Cbor<'i> {
         ensures { OnOk result (Given self.old (seq_begins None) self.new) }
     {
         let levels = self.decoder.levels;
-        match array_head(&mut self.decoder) {
+        match collection::head(&mut self.decoder, Collection::Array) {
             Ok(remaining) => self.enter(remaining, levels),
             Err(error) => Err(self.refused(error)),
         }
@@ -120,7 +121,7 @@ impl<'i> Cbor<'i> {
         ensures { OnOk result (Given self.old (map_begins None) self.new) }
     {
         let levels = self.decoder.levels;
-        match map_head(&mut self.decoder) {
+        match collection::head(&mut self.decoder, Collection::Map) {
             Ok(remaining) => self.enter(remaining, levels),
             Err(error) => Err(self.refused(error)),
         }

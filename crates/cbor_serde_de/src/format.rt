@@ -5,9 +5,10 @@ ghost use Rattle.cbor_decode_as.specs.Strings.{IsOneCharacter, text_bytes};
 
 use crate::cbor::{Cbor, Mark};
 use crate::step_error::{Step, StepError};
+use cbor_decode::Collection;
 use cbor_decode_as::borrowed::{EitherStr, read_byte_string, read_text};
 use cbor_decode_as::byte_string::read_byte_string as read_own_bytes;
-use cbor_decode_as::collection::{array_at_hand, end_array, map_at_hand};
+use cbor_decode_as::collection;
 use cbor_decode_as::integer::{from_zero_at_hand, read_u128, signed_at_hand};
 use cbor_decode_as::scalar::bool_at_hand;
 use cbor_io::error::{Error, ErrorCode};
@@ -220,7 +221,7 @@ impl<'i> Format for Cbor<'i> {
     #[inline(always)]
     fn begin_seq(&mut self, _input: &[u8]) -> Step<()> {
         let levels = self.decoder.levels;
-        match array_at_hand(&mut self.decoder) {
+        match collection::head_at_hand(&mut self.decoder, Collection::Array) {
             Some(remaining) => self.enter(remaining, levels),
             None => self.any_array(),
         }
@@ -236,7 +237,11 @@ impl<'i> Format for Cbor<'i> {
 
     // Items that are left of a tuple are `TrailingData`, as for a described type.
     fn end_tuple(&mut self, _input: &[u8]) -> Step<()> {
-        match end_array(&mut self.decoder, self.innermost.remaining) {
+        match collection::end(
+            &mut self.decoder,
+            self.innermost.remaining,
+            Collection::Array,
+        ) {
             Ok(()) => self.leave(),
             Err(error) => Err(self.refused(error)),
         }
@@ -245,7 +250,7 @@ impl<'i> Format for Cbor<'i> {
     #[inline(always)]
     fn begin_map(&mut self, _input: &[u8]) -> Step<()> {
         let levels = self.decoder.levels;
-        match map_at_hand(&mut self.decoder) {
+        match collection::head_at_hand(&mut self.decoder, Collection::Map) {
             Some(remaining) => self.enter(remaining, levels),
             None => self.any_map(),
         }
@@ -255,7 +260,7 @@ impl<'i> Format for Cbor<'i> {
     #[inline(always)]
     fn begin_struct(&mut self, _input: &[u8]) -> Step<bool> {
         let levels = self.decoder.levels;
-        match map_at_hand(&mut self.decoder) {
+        match collection::head_at_hand(&mut self.decoder, Collection::Map) {
             Some(remaining) => {
                 self.enter(remaining, levels)?;
                 Ok(false)

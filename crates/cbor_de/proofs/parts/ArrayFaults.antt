@@ -21,7 +21,8 @@ use Rattle.cbor_decode.specs.declared.head.Head.TheVariants as head
 use Rattle.cbor_decode.proofs.facts.Heads.{item_opened}
 use Rattle.cbor_decode.proofs.facts.Readings.{along, value_seen}
 use Rattle.cbor_decode.proofs.facts.Steps.{step_map, step_then}
-use Rattle.cbor_decode_as.specs.Accesses.{IsNextItem, TakesEnd, items_at}
+use Rattle.cbor_decode_as.specs.Accesses.{IsNextItem, items_at}
+use Rattle.cbor_decode_as.specs.Collections.{TakesEndOf}
 use Rattle.cbor_decode_as.specs.Begins.{Begins}
 use Rattle.cbor_decode_as.specs.TaggedHeads.{opened_at, opened_inside}
 use Rattle.cbor_decode_as.specs.Takes.{ItemFault, ReportsFault, WhereTotal, any_item, raws}
@@ -31,6 +32,7 @@ use Rattle.cbor_de.specs.ItemLists.{ItemsFault}
 use Rattle.cbor_de.proofs.refusals.Faults.{Seen, fault_of, seen_of, where_map}
 use Rattle.cbor_de.proofs.refusals.OwnFaults.{IsTold, if_any_map, if_any_then, if_told_map, reported_if_any}
 use Rattle.cbor_de.proofs.taken.HeadsTaken.{fault_read, tag_or_other}
+use Rattle.cbor_decode.specs.declared.cursor.Collection.TheVariants as collection
 
 -- ---- an item, whatever formats its keys are of
 
@@ -208,7 +210,7 @@ module _ (allowed : ReadErrorCode → Bool) (e : Error) where
 -- ---- answers
 
 module _ (allowed : ReadErrorCode → Bool) (levels : ℕ) (r : Remaining) (s : Input) where
-  pub end_err : (t : Input) (q : Result (Unit {0}) Error) → TakesEnd allowed r s t q → IfErr q (ItemsFault allowed levels r s)
+  pub end_err : (t : Input) (q : Result (Unit {0}) Error) → TakesEndOf collection.Array allowed r s t q → IfErr q (ItemsFault allowed levels r s)
   end_err t (Ok u) h = tt
   end_err t (Err e) h = end_fault allowed e levels r s h.1
 

@@ -19,7 +19,8 @@ use Rattle.cbor_decode.specs.Heads.{remaining_of}
 use Rattle.cbor_decode.specs.declared.cursor.Remaining.{Remaining}
 use Rattle.cbor_decode.specs.declared.formats.Formats.{Formats}
 use Rattle.cbor_decode.proofs.facts.Steps.{step_then}
-use Rattle.cbor_decode_as.specs.Accesses.{items_at, IsEnd, IsNextItem, TakesEnd}
+use Rattle.cbor_decode_as.specs.Accesses.{items_at, IsEnd, IsNextItem}
+use Rattle.cbor_decode_as.specs.Collections.{TakesEndOf}
 use Rattle.cbor_decode_as.specs.Arrays.{AsArray}
 use Rattle.cbor_decode_as.specs.Enums.{Content, alone, one, parts, IsVariant, IsEnum, IsNothing, IsPart, AreParts, reads_names, unit, newtype, tuple, part_then, no_part}
 use Rattle.cbor_decode_as.specs.Identifiers.{IsIdentifier}
@@ -31,6 +32,7 @@ use Rattle.cbor_decode_as.proofs.facts.Readings.{refuses_map, refuses_then}
 use Rattle.cbor_decode_as.proofs.facts.Arrays.{append, append-push, SoFar, is_done, MustFollow}
 use Rattle.cbor_decode_as.proofs.facts.Enums.{identifier_one, name_one}
 use Rattle.cbor_decode_as.proofs.facts.Arrays.{NoItems, end_step, loop_begins, part_goes_on, part_lacks, end_lacks}
+use Rattle.cbor_decode.specs.declared.cursor.Collection.TheVariants as collection
 
 -- ---- one variant
 
@@ -386,7 +388,7 @@ module _ {E : Type 0} {names : List (List ℕ)} {means : ℕ → Content → E �
 
   module _ {A : Type 0} {items : Raws → A → Type 0} {make : A → E} {all_of : Unit {0} → A} {i : ℕ} {s : Input} {f : Formats} {outer : ℕ} {t : Input} {g : Formats} {levels : ℕ} {r : Remaining} (so : PartsSoFar names means items make no_part all_of i s f outer t g levels r) where
     -- items are left where the end is due
-    pub parts_left : {w : Input} (allowed : ReadErrorCode → Bool) (u : Input) (e : Error) (q : Result E Error) → TakesEnd allowed r t w (Err e) → IsErrAnd q (λ x. x ≡ e) → u ≡ w → TakesEnum names means allowed f outer s u q
+    pub parts_left : {w : Input} (allowed : ReadErrorCode → Bool) (u : Input) (e : Error) (q : Result E Error) → TakesEndOf collection.Array allowed r t w (Err e) → IsErrAnd q (λ x. x ≡ e) → u ≡ w → TakesEnum names means allowed f outer s u q
     parts_left {w} allowed u e q h =
         parts_stop so allowed u e q
         (end_lacks so.first (Before items no_part all_of) f g so.deep levels so.formats so.inside so.all items allowed r t w e (λ front more y h means. (h.needs more y means).1) so.so_far h)

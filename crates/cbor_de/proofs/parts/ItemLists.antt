@@ -18,16 +18,19 @@ use Rattle.cbor_decode.specs.Heads.{remaining_of}
 use Rattle.cbor_decode.specs.declared.cursor.Remaining.{Remaining}
 use Rattle.cbor_decode.specs.declared.formats.Formats.{Formats}
 use Rattle.cbor_decode.proofs.facts.Steps.{step_map, step_then}
-use Rattle.cbor_decode_as.specs.Accesses.{items_at, IsArrayHead, IsNextItem, TakesMore, TakesNext, TakesPart, TakesEnd, IsEnd}
+use Rattle.cbor_decode_as.specs.Accesses.{items_at, IsNextItem, TakesMore, TakesNext, TakesPart, IsEnd}
+use Rattle.cbor_decode_as.specs.Collections.{IsHeadOf, TakesEndOf}
 use Rattle.cbor_decode_as.specs.Arrays.{AreNone, AsArray}
 use Rattle.cbor_decode_as.specs.Enums.{part_then, no_part}
 use Rattle.cbor_decode_as.specs.Takes.{TakesItem, IsRead, formats_of, raws}
 use Rattle.cbor_de.specs.ItemLists.{AreItems, AreNoItems, ReportsShort, TakesItems}
 use Rattle.cbor_decode_as.proofs.facts.Arrays.{comes, item_next, item_refused, NoPart, part_refused}
 use Rattle.cbor_decode_as.proofs.facts.Arrays.{append, with_front, SoFar, is_done, goes_on, begins, rest_of, no_part_rest}
-use Rattle.cbor_decode_as.proofs.facts.Arrays.{NoItems, array_read, array_refused, end_lacks, end_step, loop_begins}
+use Rattle.cbor_decode_as.proofs.facts.Arrays.{NoItems, array_refused, end_lacks, end_step, loop_begins}
+use Rattle.cbor_decode_as.proofs.facts.Collections.{held_read}
 use Rattle.cbor_decode_as.proofs.facts.Readings.{refuses_map, refuses_then}
 use Rattle.cbor_decode_as.proofs.facts.Tuples.{Empty, Then, one_more, none_all, first_follows, empty_rest}
+use Rattle.cbor_decode.specs.declared.cursor.Collection.TheVariants as collection
 
 -- ---- the items of several parts
 
@@ -79,7 +82,7 @@ module _ {B : Type 0} (items : Formats → Raws → B → Type 0) (f g : Formats
 
 -- nothing is left
 module _ (f : Formats) (levels : ℕ) (r : Remaining) (allowed : ReadErrorCode → Bool) (s t : Input) where
-  pub none_left : (q : Result (Unit {0}) Error) → TakesEnd allowed r s t q → TakesItems allowed (formats_of f) no_part levels r s t q
+  pub none_left : (q : Result (Unit {0}) Error) → TakesEndOf collection.Array allowed r s t q → TakesItems allowed (formats_of f) no_part levels r s t q
   none_left (Ok u) h = step_map s t (IsEnd (remaining_of r)) (λ l bs rest. AreItems no_part (items_at (formats_of f) l levels (remaining_of r) bs) tt rest)
       (λ l bs rest e.
       let d = is_done Empty (formats_of f) levels (remaining_of r) (remaining_of r) l bs bs rest (begins Empty (formats_of f) levels (remaining_of r) l bs tt) e in
@@ -110,10 +113,10 @@ module _ {S P : Type 0} (view : S → P) (items : Raws → P → Type 0) (f : mo
 -- ---- a whole array
 
 -- what the items gave after the head
-module _ {A : Type 0} (items : Formats → Raws → A → Type 0) (f g : Formats) (formats : g ≡ f) (outer inner : ℕ) (all : Remaining) (allowed : ReadErrorCode → Bool) (s m t : Input) (head : Step s m (λ l bs rest. IsArrayHead (formats_of f) l (item_at (raws (formats_of f) l) outer bs) inner all rest)) where
+module _ {A : Type 0} (items : Formats → Raws → A → Type 0) (f g : Formats) (formats : g ≡ f) (outer inner : ℕ) (all : Remaining) (allowed : ReadErrorCode → Bool) (s m t : Input) (head : Step s m (λ l bs rest. IsHeadOf collection.Array (formats_of f) l (item_at (raws (formats_of f) l) outer bs) inner all rest)) where
   array_here : (q : Result A Error) → TakesItems allowed (formats_of f) (items f) inner all m t q → TakesItem allowed (formats_of f) (PassesTags (AsArray (items f))) outer s t q
-  array_here (Ok x) h = step_then s m t (λ l bs rest. IsArrayHead (formats_of f) l (item_at (raws (formats_of f) l) outer bs) inner all rest) (λ l bs rest. AreItems (items f) (items_at (formats_of f) l inner (remaining_of all) bs) x rest) (λ l bs rest. IsRead (PassesTags (AsArray (items f))) (item_at (raws (formats_of f) l) outer bs) x rest)
-      (λ l bs mid rest a got. array_read (items f) (formats_of f) l (item_at (raws (formats_of f) l) outer bs) inner all mid a got.all rest x got.is got.meaning) head h
+  array_here (Ok x) h = step_then s m t (λ l bs rest. IsHeadOf collection.Array (formats_of f) l (item_at (raws (formats_of f) l) outer bs) inner all rest) (λ l bs rest. AreItems (items f) (items_at (formats_of f) l inner (remaining_of all) bs) x rest) (λ l bs rest. IsRead (PassesTags (AsArray (items f))) (item_at (raws (formats_of f) l) outer bs) x rest)
+      (λ l bs mid rest a got. held_read collection.Array (items f) (formats_of f) l (item_at (raws (formats_of f) l) outer bs) inner all mid a got.all rest x got.is got.meaning) head h
   array_here (Err e) h = array_refused m (λ front. Unit {0}) f f inner inner refl refl all (items f) outer s allowed (code_of e) (offset_of e) head
       (refuses_map allowed m (code_of e) (offset_of e) (λ l bs. AreNoItems (items f) (items_at (formats_of f) l inner (remaining_of all) bs)) (NoItems (items f) (formats_of f) inner (remaining_of all))
       (λ l bs none rs rest x is means. none x rest (record { all = rs; is = is; meaning = means })) h)

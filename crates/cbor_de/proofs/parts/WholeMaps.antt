@@ -19,12 +19,14 @@ use Rattle.cbor_decode.specs.declared.cursor.Remaining.{Remaining}
 use Rattle.cbor_decode.specs.declared.cursor.Remaining.TheVariants.{Counted}
 use Rattle.cbor_decode.proofs.facts.Steps.{step_same, step_then}
 use Rattle.cbor_decode.specs.declared.formats.Formats.{Formats}
-use Rattle.cbor_decode_as.specs.MapAccesses.{pairs_at, IsMapHead, IsPairs, IsKey, IsNextKey, IsMapEnd, RefusesMap, TakesMapEnd}
+use Rattle.cbor_decode_as.specs.MapAccesses.{pairs_at, IsKey, IsNextKey, IsMapEnd}
+use Rattle.cbor_decode_as.specs.Collections.{IsHeadOf, IsHeld, RefusesHeadOf, TakesEndOf}
 use Rattle.cbor_decode_as.specs.Maps.{AsMap}
 use Rattle.cbor_decode_as.specs.Takes.{formats_of, raws, IsRead, IsNotRead, Refuses}
-use Rattle.cbor_decode_as.proofs.facts.Maps.{map_read, map_none, none_as_map}
+use Rattle.cbor_decode_as.proofs.facts.Collections.{held_none, held_read, none_as_one}
 use Rattle.cbor_decode_as.proofs.facts.Readings.{refuses_map, refuses_then, refuses_fault}
 use Rattle.cbor_decode_as.proofs.facts.Maps.{append_pairs, PairsSoFar, pairs_begin, pairs_go_on, pairs_end, pairs_rest, NoKey, no_key_rest, no_value_rest, PairMayFollow}
+use Rattle.cbor_decode.specs.declared.cursor.Collection.TheVariants as collection
 
 -- ---- the end
 
@@ -43,7 +45,7 @@ none_remains new bs f is e =
     let here : ended_at end_in_map (reader.counted 0) bs ≡ Err f = subst (λ (r : Remaining). ended_at end_in_map (remaining_of r) bs ≡ Err f) is e in
     absurd cc
 
-no_end_refused : (allowed : ReadErrorCode → Bool) (s u w : Input) (new : Remaining) (e : Error) (P : Limits → List ℕ → List ℕ → Type 0) (N : Limits → List ℕ → Type 0) → new ≡ Counted 0 → Step s u P → TakesMapEnd allowed new u w (Err e) → Refuses allowed s w (code_of e) (offset_of e) N
+no_end_refused : (allowed : ReadErrorCode → Bool) (s u w : Input) (new : Remaining) (e : Error) (P : Limits → List ℕ → List ℕ → Type 0) (N : Limits → List ℕ → Type 0) → new ≡ Counted 0 → Step s u P → TakesEndOf collection.Map allowed new u w (Err e) → Refuses allowed s w (code_of e) (offset_of e) N
 no_end_refused allowed s u w new e P N is step h =
     refuses_then allowed s (code_of e) (offset_of e) u P (λ l bs. ⊥) N (λ l bs mid p none. absurd none) step
     (refuses_fault allowed (λ l. ended_at end_in_map (remaining_of new)) u e (λ l bs. ⊥) (λ l bs f stops. none_remains new bs f is stops) h.0 h.1)
@@ -120,7 +122,7 @@ module _ (s0 : Input) (P : List (Raw × Raw) → Type 0) (f : Formats) (levels :
 
   module _ {A : Type 0} (pairs : RawPairs → A → Type 0) (outer : ℕ) (s : Input) where
     abbrev Head : Limits → List ℕ → List ℕ → Type 0
-    Head l bs rest = IsMapHead (formats_of f) l (item_at (raws (formats_of f) l) outer bs) levels all rest
+    Head l bs rest = IsHeadOf collection.Map (formats_of f) l (item_at (raws (formats_of f) l) outer bs) levels all rest
 
     abbrev IsMapRead : A → Limits → List ℕ → List ℕ → Type 0
     IsMapRead x l bs rest = IsRead (PassesTags (AsMap pairs)) (item_at (raws (formats_of f) l) outer bs) x rest
@@ -136,22 +138,22 @@ module _ (s0 : Input) (P : List (Raw × Raw) → Type 0) (f : Formats) (levels :
         let d = pairs_end P (formats_of f) levels (remaining_of all) (remaining_of r) l bs mid rest h e in
         (append_pairs d.front no_raw_pairs, d.is, on d.front d.holds)) so end in
         let all_read = step_then s s0 u Head (ArePairsAt x) (IsMapRead x)
-        (λ l bs mid rest h d. map_read pairs (formats_of f) l (item_at (raws (formats_of f) l) outer bs) levels all mid h d.0 rest x d.1 d.2) head both in
+        (λ l bs mid rest h d. held_read collection.Map pairs (formats_of f) l (item_at (raws (formats_of f) l) outer bs) levels all mid h d.0 rest x d.1 d.2) head both in
         subst (λ (w : Input). Step s w (IsMapRead x)) (sym is) all_read
 
     pub map_refused : {w : Input} (allowed : ReadErrorCode → Bool) (k : ErrorCode) (at : ℕ) → Step s s0 Head → Refuses allowed s0 w k at (NoPairs pairs (formats_of f) levels (remaining_of all))
         → Refuses allowed s w k at (λ l bs. IsNotRead (PassesTags (AsMap pairs)) (item_at (raws (formats_of f) l) outer bs))
     map_refused allowed k at head none = refuses_then allowed s k at s0 Head (NoPairs pairs (formats_of f) levels (remaining_of all)) (λ l bs. IsNotRead (PassesTags (AsMap pairs)) (item_at (raws (formats_of f) l) outer bs))
-        (λ l bs mid h n. map_none pairs (formats_of f) l (item_at (raws (formats_of f) l) outer bs) levels all mid h n) head none
+        (λ l bs mid h n. held_none collection.Map pairs (formats_of f) l (item_at (raws (formats_of f) l) outer bs) levels all mid h n) head none
 
     -- nothing remains, so that the end can't be refused
     pub map_end_refused : (allowed : ReadErrorCode → Bool) (t u w : Input) (r new : Remaining) (e : Error) → new ≡ Counted 0
-        → Step s s0 Head → Step s0 t (So P r) → Step t u (IsMapEnd (remaining_of r)) → TakesMapEnd allowed new u w (Err e) → Refuses allowed s w (code_of e) (offset_of e) (λ l bs. IsNotRead (PassesTags (AsMap pairs)) (item_at (raws (formats_of f) l) outer bs))
+        → Step s s0 Head → Step s0 t (So P r) → Step t u (IsMapEnd (remaining_of r)) → TakesEndOf collection.Map allowed new u w (Err e) → Refuses allowed s w (code_of e) (offset_of e) (λ l bs. IsNotRead (PassesTags (AsMap pairs)) (item_at (raws (formats_of f) l) outer bs))
     map_end_refused allowed t u w r new e none head so end h =
         let one = step_then s s0 t Head (So P r) (λ l bs rest. Unit {0}) (λ l bs mid rest a b. tt) head so in
         let two = step_then s t u (λ l bs rest. Unit {0}) (IsMapEnd (remaining_of r)) (λ l bs rest. Unit {0}) (λ l bs mid rest a b. tt) one end in
         no_end_refused allowed s u w new e (λ l bs rest. Unit {0}) (λ l bs. IsNotRead (PassesTags (AsMap pairs)) (item_at (raws (formats_of f) l) outer bs)) none two h
 
 -- no map is there
-pub no_map_read : {A : Type 0} {w : Input} (pairs : RawPairs → A → Type 0) (allowed : ReadErrorCode → Bool) (f : model.Formats) (levels : ℕ) (s : Input) (e : Error) → RefusesMap allowed f levels s w e → Refuses allowed s w (code_of e) (offset_of e) (λ l bs. IsNotRead (PassesTags (AsMap pairs)) (item_at (raws f l) levels bs))
-no_map_read pairs allowed f levels s e h = refuses_map allowed s (code_of e) (offset_of e) (λ l bs. IsNotRead (PassesTags IsPairs) (item_at (raws f l) levels bs)) (λ l bs. IsNotRead (PassesTags (AsMap pairs)) (item_at (raws f l) levels bs)) (λ l bs none. none_as_map pairs (item_at (raws f l) levels bs) none) h
+pub no_map_read : {A : Type 0} {w : Input} (pairs : RawPairs → A → Type 0) (allowed : ReadErrorCode → Bool) (f : model.Formats) (levels : ℕ) (s : Input) (e : Error) → RefusesHeadOf collection.Map allowed f levels s w e → Refuses allowed s w (code_of e) (offset_of e) (λ l bs. IsNotRead (PassesTags (AsMap pairs)) (item_at (raws f l) levels bs))
+no_map_read pairs allowed f levels s e h = refuses_map allowed s (code_of e) (offset_of e) (λ l bs. IsNotRead (PassesTags (IsHeld collection.Map)) (item_at (raws f l) levels bs)) (λ l bs. IsNotRead (PassesTags (AsMap pairs)) (item_at (raws f l) levels bs)) (λ l bs none. none_as_one collection.Map pairs (item_at (raws f l) levels bs) none) h

@@ -16,7 +16,7 @@ use Rattle.cbor_decode.specs.declared.cursor.Remaining.{Remaining}
 use Rattle.cbor_decode.specs.declared.formats.Formats as declared
 use Rattle.cbor_decode.proofs.facts.Readings.{value_seen}
 use Rattle.cbor_decode.proofs.facts.Steps.{some_then, step_then, took_none}
-use Rattle.cbor_decode_as.specs.MapAccesses.{IsMapHead}
+use Rattle.cbor_decode_as.specs.Collections.{IsHeadOf}
 use Rattle.cbor_decode_as.specs.Takes.{ReportsFault, formats_of, raws}
 use Rattle.cbor_decode_as.specs.Cases.{FormAlone, IsBadKey, IsEnumCode, NoItemHere, NothingFollows, HasCase, CaseHolds, enum_cases, key_cases, unit_cases}
 use Rattle.cbor_decode_as.specs.declared.variant.Form.{Form}
@@ -25,6 +25,7 @@ use Rattle.cbor_decode_as.proofs.facts.Maps.{PairsSoFar, map_stops}
 use Rattle.cbor_de.specs.Forms.{WrongForms, never, reported, any_of, may_report, Began, FormOnlyIf, MayReport, MayReportContent, MayReportKey, MayReportPart}
 use Rattle.cbor_de.specs.Forms.{ReportsAt, ReportsKey, ReportsWithin, ReportsBeginning, ReportsEnum, ReportsNameAlone, IsBadWithin, key_form, enum_form, unit_form, part_form}
 use Rattle.cbor_de.proofs.refusals.Faults.{fault_of}
+use Rattle.cbor_decode.specs.declared.cursor.Collection.TheVariants as collection
 
 -- an error that reports no form, of any type
 pub plain : (a : WrongForms) (f : Formats) (s : Input) (e : Error) → ReportsNoForm (code_of e) → MayReport a f s e
@@ -120,15 +121,15 @@ pub key_of : (a : WrongForms) (f : Formats) (remaining : Remaining) (s : Input) 
 key_of a f remaining s e (inl h) = inl (plain a f s e h)
 key_of a f remaining s e (inr h) = inr h
 
-module _ (P : List (Raw × Raw) → Type 0) (f : declared.Formats) (levels left : ℕ) (all r : Remaining) (s first t : Input) (head : Step s first (λ l bs rest. IsMapHead (formats_of f) l (item_at (raws (formats_of f) l) levels bs) left all rest)) (so : Step first t (PairsSoFar P (formats_of f) left (remaining_of all) (remaining_of r))) where
+module _ (P : List (Raw × Raw) → Type 0) (f : declared.Formats) (levels left : ℕ) (all r : Remaining) (s first t : Input) (head : Step s first (λ l bs rest. IsHeadOf collection.Map (formats_of f) l (item_at (raws (formats_of f) l) levels bs) left all rest)) (so : Step first t (PairsSoFar P (formats_of f) left (remaining_of all) (remaining_of r))) where
   -- the map, of which some pairs were read
   record MapBehind (l : Limits) (bs rest : List ℕ) : Type 0 where
     mid : List ℕ
-    begins : IsMapHead (formats_of f) l (item_at (raws (formats_of f) l) levels bs) left all mid
+    begins : IsHeadOf collection.Map (formats_of f) l (item_at (raws (formats_of f) l) levels bs) left all mid
     pairs : PairsSoFar P (formats_of f) left (remaining_of all) (remaining_of r) l mid rest
 
   map_behind : Step s t MapBehind
-  map_behind = step_then s first t (λ l bs rest. IsMapHead (formats_of f) l (item_at (raws (formats_of f) l) levels bs) left all rest) (PairsSoFar P (formats_of f) left (remaining_of all) (remaining_of r)) MapBehind
+  map_behind = step_then s first t (λ l bs rest. IsHeadOf collection.Map (formats_of f) l (item_at (raws (formats_of f) l) levels bs) left all rest) (PairsSoFar P (formats_of f) left (remaining_of all) (remaining_of r)) MapBehind
       (λ l bs mid rest begins pairs. record { mid = mid; begins = begins; pairs = pairs }) head so
 
   -- its next key may not begin as it does

@@ -15,7 +15,8 @@ use Rattle.cbor_decode.specs.declared.cursor.Remaining.TheVariants.{Counted}
 use Rattle.cbor_decode.specs.declared.formats.Formats.{Formats}
 use Rattle.cbor_decode_as.specs.Accesses.{most_left}
 use Rattle.cbor_decode_as.specs.Identifiers.{texts}
-use Rattle.cbor_decode_as.specs.MapAccesses.{IsKey, IsMapHead, RefusesMap, TakesMapEnd}
+use Rattle.cbor_decode_as.specs.MapAccesses.{IsKey}
+use Rattle.cbor_decode_as.specs.Collections.{IsHeadOf, RefusesHeadOf, TakesEndOf}
 use Rattle.cbor_de.specs.Structs.{IsAny, IsField, FieldOf, IsStruct}
 use Rattle.cbor_decode_as.specs.Takes.{TakesItem, formats_of, raws, IsRead, IsNotRead, Refuses, WhateverTaken}
 use Rattle.cbor_de.specs.declared.de.Deserializer.{Deserializer}
@@ -26,6 +27,7 @@ use Rattle.cbor_decode_as.proofs.facts.Maps.{NoKey}
 use Rattle.cbor_decode_as.proofs.facts.Readings.{refuses_map}
 use Rattle.cbor_de.proofs.structs.Slots.{field_one, Slots, none_yet, all_of, Has, LacksAt, ValueAt, reads_at, fill, IsOther}
 use Rattle.cbor_de.proofs.structs.Structs.{StructSoFar, NoStruct, struct_begins, no_struct, no_field_named, FieldNamed, field_named, field_once, field_not_once, other_passed, other_unread, field_missing, end_unread, struct_read}
+use Rattle.cbor_decode.specs.declared.cursor.Collection.TheVariants as collection
 
 -- ---- which field is meant
 
@@ -115,13 +117,13 @@ module _ {S : Type 0} {R : Type 0} (names : List (List ℕ)) (fields : List (Fie
   -- ---- the map's head
 
   -- no map is there
-  pub no_fields : (de : Deserializer R) (allowed : ReadErrorCode → Bool) (e : Error) → WhateverTaken (source de.decoder.source) (RefusesMap allowed (formats_of de.decoder.formats) de.decoder.levels (source de.decoder.source)) e
+  pub no_fields : (de : Deserializer R) (allowed : ReadErrorCode → Bool) (e : Error) → WhateverTaken (source de.decoder.source) (RefusesHeadOf collection.Map allowed (formats_of de.decoder.formats) de.decoder.levels (source de.decoder.source)) e
       → (t : Input) (r : Result S Error) → IsErrAnd r (λ x. x ≡ e) → TookSome (source de.decoder.source) t → TakesItem allowed (formats_of de.decoder.formats) (IsStruct names fields) de.decoder.levels (source de.decoder.source) t r
   no_fields de allowed e none t r is took = not_read allowed de e t r is refl (no_struct (IsField names) fields allowed (source de.decoder.source) de.decoder.formats de.decoder.levels e (none t took))
 
   pub fields_begin : {de : Deserializer R} {begun : StructAccess R}
       → Step (source de.decoder.source) (source begun.de.now.decoder.source)
-      (λ l bs rest. IsMapHead (formats_of de.decoder.formats) l (item_at (raws (formats_of de.decoder.formats) l) de.decoder.levels bs) begun.de.now.decoder.levels begun.remaining rest)
+      (λ l bs rest. IsHeadOf collection.Map (formats_of de.decoder.formats) l (item_at (raws (formats_of de.decoder.formats) l) de.decoder.levels bs) begun.de.now.decoder.levels begun.remaining rest)
       → begun.de.now.decoder.formats ≡ de.decoder.formats → texts begun.names.now ≡ names → begun.value_due ≡ false → Advances (source de.decoder.source) (source begun.de.now.decoder.source) → FieldsSoFar de begun begun (none_yet fields)
   fields_begin head formats named due advances = record {
     same = refl;
@@ -251,13 +253,13 @@ module _ {S : Type 0} {R : Type 0} {names : List (List ℕ)} {fields : List (Fie
     }
 
     -- the end isn't there, which can't be
-    pub end_refused : {w : Input} (allowed : ReadErrorCode → Bool) (e : Error) → TakesMapEnd allowed now.remaining (source now.de.now.decoder.source) w (Err e)
+    pub end_refused : {w : Input} (allowed : ReadErrorCode → Bool) (e : Error) → TakesEndOf collection.Map allowed now.remaining (source now.de.now.decoder.source) w (Err e)
         → (t : Input) (r : Result S Error) → IsErrAnd r (λ x. x ≡ e) → t ≡ w → TakesItem allowed (formats_of de.decoder.formats) (IsStruct names fields) de.decoder.levels (source de.decoder.source) t r
     end_refused {w} allowed e h t r err same =
         not_read names fields source allowed de e t r err same
         (end_unread (IsField names) fields d.was.so_far None refl now.remaining d.next allowed w e d.nothing h)
 
     -- all fields were read
-    pub fields_read : {w z : Input} (x : S) → slots ≡ all_of fields x → TakesMapEnd (λ c. false) now.remaining (source now.de.now.decoder.source) w (Ok tt) → z ≡ w
+    pub fields_read : {w z : Input} (x : S) → slots ≡ all_of fields x → TakesEndOf collection.Map (λ c. false) now.remaining (source now.de.now.decoder.source) w (Ok tt) → z ≡ w
         → Step (source de.decoder.source) z (λ l bs rest. IsRead (IsStruct names fields) (item_at (raws (formats_of de.decoder.formats) l) de.decoder.levels bs) x rest)
     fields_read x all end is = struct_read (IsField names) fields d.was.so_far None refl now.remaining d.next x all d.nothing end is

@@ -15,16 +15,19 @@ use Rattle.cbor_decode.specs.declared.formats.Formats.{Formats}
 use Rattle.cbor_decode.specs.declared.head.Head.TheVariants as head
 use Rattle.cbor_decode.proofs.facts.Steps.{step_then}
 use Rattle.cbor_decode_as.specs.Begins.{MemoryForOther}
-use Rattle.cbor_decode_as.specs.MapAccesses.{IsKey, IsMapEnd, IsMapHead, IsNextKey, MemoryForKey, pairs_at}
+use Rattle.cbor_decode_as.specs.MapAccesses.{IsKey, IsMapEnd, IsNextKey, MemoryForKey, pairs_at}
+use Rattle.cbor_decode_as.specs.Collections.{IsHeadOf}
 use Rattle.cbor_decode_as.specs.Strings.{IsAskedString}
 use Rattle.cbor_decode_as.specs.Takes.{IsRead, MemoryFor, formats_of, raws}
-use Rattle.cbor_decode_as.proofs.facts.Maps.{PairsDone, PairsSoFar, another, append_pairs, first_pair, last, map_is, other_no_map, pairs_end, pairs_rest}
+use Rattle.cbor_decode_as.proofs.facts.Maps.{PairsDone, PairsSoFar, another, append_pairs, first_pair, last, pairs_end, pairs_rest}
+use Rattle.cbor_decode_as.proofs.facts.Collections.{held_is, other_none}
 use Rattle.cbor_decode_as.proofs.facts.Readings.{OutOfMemoryAt, memory_by, memory_then}
 use Rattle.cbor_de.specs.Structs.{AreFields, AreFieldsOf, FieldOf, IsMapOf}
 use Rattle.cbor_de.specs.StructMemory.{AsksForFields, AsksForPair, AsksForValue, InMap, SomePair}
 use Rattle.cbor_de.specs.declared.field.Field.{Field}
 use Rattle.cbor_de.proofs.structs.Slots.{Gathered, LacksAt, Slots, gathered_missing}
 use Rattle.cbor_de.proofs.structs.Structs.{KeyTaken, StructSoFar, end_here, key_here, key_taken, pair_at_key}
+use Rattle.cbor_decode.specs.declared.cursor.Collection.TheVariants as collection
 
 -- ---- pairs
 
@@ -54,14 +57,14 @@ module _ {S : Type 0} (keyed : Raw → Field → Type 0) (fields : List (FieldOf
   -- ---- its head
 
   pub head_asked : (f : Formats) (outer : ℕ) (s : Input) (e : Error) → MemoryForOther head.Map outer s e → MemoryFor (AsksForFields keyed a values) (formats_of f) (IsMapOf keyed fields) outer s e
-  head_asked f outer s e h out bs reports x rest got = absurd (other_no_map (AreFieldsOf keyed fields) (formats_of f) _ outer bs (h out bs reports) x rest got)
+  head_asked f outer s e h out bs reports x rest got = absurd (other_none collection.Map (AreFieldsOf keyed fields) (formats_of f) _ outer bs (h out bs reports) x rest got)
 
   module _ {slots : Slots fields} {s : Input} {f : Formats} {outer : ℕ} {t : Input} {g : Formats} {levels : ℕ} {r : Remaining} (so : StructSoFar keyed fields slots s f outer t g levels r) where
     abbrev Q : List (Raw × Raw) → Type 0
     Q = Gathered keyed fields slots
 
     abbrev Head : Limits → List ℕ → List ℕ → Type 0
-    Head l bs rest = IsMapHead (formats_of f) l (item_at (raws (formats_of f) l) outer bs) so.deep so.all rest
+    Head l bs rest = IsHeadOf collection.Map (formats_of f) l (item_at (raws (formats_of f) l) outer bs) so.deep so.all rest
 
     -- the map's head, and what is known of what follows it
     record Behind (R : Limits → List ℕ → List ℕ → Type 0) (l : Limits) (bs rest : List ℕ) : Type 0 where
@@ -78,7 +81,7 @@ module _ {S : Type 0} (keyed : Raw → Field → Type 0) (fields : List (FieldOf
     -- what is said of the map's pairs is said of it
     of_pairs : (l : Limits) (bs mid : List ℕ) → Head l bs mid → ((rs : RawPairs) (rest : List ℕ) (x : S) → Pairs l mid rs rest → AreFieldsOf keyed fields rs x → SomePair P rs) → Asked f outer l bs
     of_pairs l bs mid h on x rest got =
-        let m = map_is (AreFieldsOf keyed fields) (formats_of f) l (item_at (raws (formats_of f) l) outer bs) so.deep so.all mid h x rest got in
+        let m = held_is collection.Map (AreFieldsOf keyed fields) (formats_of f) l (item_at (raws (formats_of f) l) outer bs) so.deep so.all mid h x rest got in
         in_map P got.item h.len m.rs m.same (on m.rs rest x m.is m.means)
 
     -- ---- a key

@@ -18,7 +18,8 @@ use Rattle.cbor_decode.specs.declared.cursor.Remaining.{Remaining}
 use Rattle.cbor_decode.specs.declared.cursor.Remaining.TheVariants.{Counted}
 use Rattle.cbor_decode.specs.declared.formats.Formats.{Formats}
 use Rattle.cbor_decode.proofs.facts.Steps.{step_then}
-use Rattle.cbor_decode_as.specs.MapAccesses.{pairs_at, IsMapHead, IsKey, IsNextKey, IsMapEnd, RefusesMap, TakesMapEnd}
+use Rattle.cbor_decode_as.specs.MapAccesses.{pairs_at, IsKey, IsNextKey, IsMapEnd}
+use Rattle.cbor_decode_as.specs.Collections.{IsHeadOf, RefusesHeadOf, TakesEndOf}
 use Rattle.cbor_de.specs.Structs.{IsAny, AreFieldsOf, FieldOf, IsMapOf, MeansOneField}
 use Rattle.cbor_decode_as.specs.Takes.{formats_of, raws, IsRead, IsNotRead, Refuses}
 use Rattle.cbor_de.specs.declared.field.Field.{Field}
@@ -28,6 +29,7 @@ use Rattle.cbor_decode_as.proofs.facts.Readings.{refuses_map, refuses_then, refu
 use Rattle.cbor_decode_as.proofs.facts.Refusals.{refuses_on}
 use Rattle.cbor_de.proofs.structs.Slots.{Slots, none_yet, all_of, AreHeld, all_held, Has, LacksAt, ValueAt, reads_at, put, fill, filled, IsOther, Gathered, gathered_none, gathered_set, gathered_other, gathered_twice, gathered_value, gathered_missing, gathered_all, gathered_follows}
 use Rattle.cbor_de.proofs.parts.WholeMaps.{NoPairs, map_begins, map_goes_on, key_lacks, map_takes, map_refused, map_end_refused, map_end_twice, no_map_read}
+use Rattle.cbor_decode.specs.declared.cursor.Collection.TheVariants as collection
 
 -- ---- after a key
 
@@ -124,7 +126,7 @@ module _ {S : Type 0} (keyed : Raw → Field → Type 0) (fields : List (FieldOf
     pub first : Input
     pub deep : ℕ
     pub all : Remaining
-    pub head : Step s first (λ l bs rest. IsMapHead (formats_of f) l (item_at (raws (formats_of f) l) outer bs) deep all rest)
+    pub head : Step s first (λ l bs rest. IsHeadOf collection.Map (formats_of f) l (item_at (raws (formats_of f) l) outer bs) deep all rest)
     pub so_far : Step first t (PairsSoFar (Gathered keyed fields slots) (formats_of f) deep (remaining_of all) (remaining_of r))
     pub formats : g ≡ f
     pub inside : levels ≡ deep
@@ -139,7 +141,7 @@ module _ {S : Type 0} (keyed : Raw → Field → Type 0) (fields : List (FieldOf
 
   -- after the head no field was read
   pub struct_begins : {s t : Input} {f g : Formats} {outer levels : ℕ} {all : Remaining}
-      → Step s t (λ l bs rest. IsMapHead (formats_of f) l (item_at (raws (formats_of f) l) outer bs) levels all rest) → g ≡ f → StructSoFar (none_yet fields) s f outer t g levels all
+      → Step s t (λ l bs rest. IsHeadOf collection.Map (formats_of f) l (item_at (raws (formats_of f) l) outer bs) levels all rest) → g ≡ f → StructSoFar (none_yet fields) s f outer t g levels all
   struct_begins {s} {t} {f} {g} {outer} {levels} {all} head formats = record {
     first = t;
     deep = levels;
@@ -151,7 +153,7 @@ module _ {S : Type 0} (keyed : Raw → Field → Type 0) (fields : List (FieldOf
   }
 
   -- no map is there
-  pub no_struct : {w : Input} (allowed : ReadErrorCode → Bool) (s : Input) (f : Formats) (outer : ℕ) (e : Error) → RefusesMap allowed (formats_of f) outer s w e → NoStruct allowed s w f outer (code_of e) (offset_of e)
+  pub no_struct : {w : Input} (allowed : ReadErrorCode → Bool) (s : Input) (f : Formats) (outer : ℕ) (e : Error) → RefusesHeadOf collection.Map allowed (formats_of f) outer s w e → NoStruct allowed s w f outer (code_of e) (offset_of e)
   no_struct allowed s f outer e = no_map_read (AreFieldsOf keyed fields) allowed (formats_of f) outer s e
 
   module _ {slots : Slots fields} {s : Input} {f : Formats} {outer : ℕ} {t : Input} {g : Formats} {levels : ℕ} {r : Remaining} (so : StructSoFar slots s f outer t g levels r) where
@@ -253,17 +255,17 @@ module _ {S : Type 0} (keyed : Raw → Field → Type 0) (fields : List (FieldOf
           (λ front x holds means. gathered_missing keyed fields slots front i x missing holds means))
 
       -- the end isn't there, which can't be
-      pub end_unread : (allowed : ReadErrorCode → Bool) (w : Input) (e : Error) → new ≡ Counted 0 → TakesMapEnd allowed new u w (Err e) → NoStruct allowed s w f outer (code_of e) (offset_of e)
+      pub end_unread : (allowed : ReadErrorCode → Bool) (w : Input) (e : Error) → new ≡ Counted 0 → TakesEndOf collection.Map allowed new u w (Err e) → NoStruct allowed s w f outer (code_of e) (offset_of e)
       end_unread allowed w e nothing h = map_end_refused so.first P f so.deep so.all (AreFieldsOf keyed fields) outer s allowed t u w r new e nothing so.head so.so_far end_here h
 
       -- all fields were read, or what stands for them is there
-      pub struct_held : {w z : Input} (x : S) → AreHeld fields slots x → new ≡ Counted 0 → TakesMapEnd (λ c. false) new u w (Ok tt) → z ≡ w → ReadsStruct s z f outer x
+      pub struct_held : {w z : Input} (x : S) → AreHeld fields slots x → new ≡ Counted 0 → TakesEndOf collection.Map (λ c. false) new u w (Ok tt) → z ≡ w → ReadsStruct s z f outer x
       struct_held {w} {z} x all nothing ended is =
           map_takes so.first P f so.deep so.all (AreFieldsOf keyed fields) outer s t w z r x (λ front holds. gathered_all keyed fields slots front x all holds)
           so.head so.so_far (map_end_twice (remaining_of r) new t u w nothing end_here ended) is
 
       -- all fields were read
-      pub struct_read : {w z : Input} (x : S) → slots ≡ all_of fields x → new ≡ Counted 0 → TakesMapEnd (λ c. false) new u w (Ok tt) → z ≡ w → ReadsStruct s z f outer x
+      pub struct_read : {w z : Input} (x : S) → slots ≡ all_of fields x → new ≡ Counted 0 → TakesEndOf collection.Map (λ c. false) new u w (Ok tt) → z ≡ w → ReadsStruct s z f outer x
       struct_read x all = struct_held x (all_held fields slots x all)
 
   -- ---- fields that are read once into their slots

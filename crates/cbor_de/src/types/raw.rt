@@ -43,10 +43,13 @@ impl DeserializeOwned for RawValue {
 /// From a source that doesn't, as a reader, an item is refused with `invalid type: expected an item
 /// that the input lends`.
 impl Readable for RawSlice<'_> {
+    ghost use Rattle.std.specs.Prelude.{true};
     ghost use Rattle.cbor_decode_as.specs.RawItems.{IsLentItem};
     ghost use Rattle.cbor_value.specs.RawBytes.{slice_bytes};
 
     ghost reads = { λ c r x. IsLentItem c r (slice_bytes x) };
+
+    ghost reports_faults = { true };
 }
 
 impl<'de, R: Read<'de>> Deserialize<'de, R> for RawSlice<'de> {

@@ -19,13 +19,15 @@ use Rattle.cbor_decode.specs.declared.cursor.Remaining.{Remaining}
 use Rattle.cbor_decode.specs.declared.cursor.Remaining.TheVariants.{Counted}
 use Rattle.cbor_decode.proofs.facts.Steps.{step_same, step_map, step_then}
 use Rattle.cbor_decode.specs.declared.formats.Formats.{Formats}
-use Rattle.cbor_decode_as.specs.Accesses.{items_at, IsArrayHead, IsItems, IsNext, IsEnd, RefusesArray, TakesEnd, IsNextItem}
+use Rattle.cbor_decode_as.specs.Accesses.{items_at, IsNext, IsEnd, IsNextItem}
+use Rattle.cbor_decode_as.specs.Collections.{IsHeadOf, IsHeld, RefusesHeadOf, TakesEndOf}
 use Rattle.cbor_decode_as.specs.Arrays.{AsArray, AreNone}
 use Rattle.cbor_decode_as.specs.Takes.{formats_of, raws, IsRead, IsNotRead, Refuses}
-use Rattle.cbor_decode_as.proofs.arrays.ArrayHeads.{array_read, array_none, none_as_array}
+use Rattle.cbor_decode_as.proofs.collections.Heads.{held_none, held_read, none_as_one}
 use Rattle.cbor_decode_as.proofs.refused.Refusing.{refuses_map, refuses_then, refuses_fault}
 use Rattle.cbor_decode_as.proofs.arrays.Nexts.{NoPart}
 use Rattle.cbor_decode_as.proofs.arrays.Sequences.{append, SoFar, begins, goes_on, is_done, rest_of, NoNext, no_rest, MayFollow, MustFollow, no_part_rest, no_end_rest}
+use Rattle.cbor_decode.specs.declared.cursor.Collection.TheVariants as collection
 
 -- ---- the end
 
@@ -76,7 +78,7 @@ none_remains new bs f is e =
     let here : ended_at end_in_array (reader.counted 0) bs ≡ Err f = subst (λ (r : Remaining). ended_at end_in_array (remaining_of r) bs ≡ Err f) is e in
     absurd cc
 
-pub no_end_refused : (allowed : ReadErrorCode → Bool) (s u w : Input) (new : Remaining) (e : Error) (P : Limits → List ℕ → List ℕ → Type 0) (N : Limits → List ℕ → Type 0) → new ≡ Counted 0 → Step s u P → TakesEnd allowed new u w (Err e) → Refuses allowed s w (code_of e) (offset_of e) N
+pub no_end_refused : (allowed : ReadErrorCode → Bool) (s u w : Input) (new : Remaining) (e : Error) (P : Limits → List ℕ → List ℕ → Type 0) (N : Limits → List ℕ → Type 0) → new ≡ Counted 0 → Step s u P → TakesEndOf collection.Array allowed new u w (Err e) → Refuses allowed s w (code_of e) (offset_of e) N
 no_end_refused allowed s u w new e P N is step h =
     refuses_then allowed s (code_of e) (offset_of e) u P (λ l bs. ⊥) N (λ l bs mid p none. absurd none) step
     (refuses_fault allowed (λ l. ended_at end_in_array (remaining_of new)) u e (λ l bs. ⊥) (λ l bs f stops. none_remains new bs f is stops) h.0 h.1)
@@ -130,7 +132,7 @@ module _ (s0 : Input) (P : List Raw → Type 0) (f g : Formats) (levels inside :
 
   -- items are left where the end is due
   pub end_lacks : {B : Type 0} (items : Raws → B → Type 0) (allowed : ReadErrorCode → Bool) (r : Remaining) (s t : Input) (e : Error) → ((front : List Raw) (more : Raws) (x : B) → P front → items (append front more) x → AreNone more)
-      → Step s0 s (So P r) → TakesEnd allowed r s t (Err e) → Refuses allowed s0 t (code_of e) (offset_of e) (NoItems items (formats_of f) levels (remaining_of all))
+      → Step s0 s (So P r) → TakesEndOf collection.Array allowed r s t (Err e) → Refuses allowed s0 t (code_of e) (offset_of e) (NoItems items (formats_of f) levels (remaining_of all))
   end_lacks items allowed r s t e follows one two =
       refuses_then allowed s0 (code_of e) (offset_of e) s (So P r) (λ l bs. (rest : List ℕ) → IsEnd (remaining_of r) l bs rest → ⊥) (NoItems items (formats_of f) levels (remaining_of all))
       (λ l bs mid h none rs rest x is means.
@@ -142,7 +144,7 @@ module _ (s0 : Input) (P : List Raw → Type 0) (f g : Formats) (levels inside :
 
   module _ {B : Type 0} (items : Raws → B → Type 0) (outer : ℕ) (s : Input) where
     abbrev Head : Limits → List ℕ → List ℕ → Type 0
-    Head l bs rest = IsArrayHead (formats_of f) l (item_at (raws (formats_of f) l) outer bs) levels all rest
+    Head l bs rest = IsHeadOf collection.Array (formats_of f) l (item_at (raws (formats_of f) l) outer bs) levels all rest
 
     pub array_takes : (t u : Input) (r : Remaining) (x : B) → ((front : List Raw) → P front → items (append front no_raws) x)
         → Step s s0 Head → Step s0 t (So P r) → Step t u (IsEnd (remaining_of r)) → Step s u (λ l bs rest. IsRead (PassesTags (AsArray items)) (item_at (raws (formats_of f) l) outer bs) x rest)
@@ -152,7 +154,7 @@ module _ (s0 : Input) (P : List Raw → Type 0) (f g : Formats) (levels inside :
         let d = is_done P (formats_of f) levels (remaining_of all) (remaining_of r) l bs mid rest h e in
         (append d.front no_raws, d.is, on d.front d.holds)) so end in
         step_then s s0 u Head (λ l bs rest. (rs : Raws) × (items_at (formats_of f) l levels (remaining_of all) bs ≡ Ok (rs, rest)) × items rs x) (λ l bs rest. IsRead (PassesTags (AsArray items)) (item_at (raws (formats_of f) l) outer bs) x rest)
-        (λ l bs mid rest h d. array_read items (formats_of f) l (item_at (raws (formats_of f) l) outer bs) levels all mid h d.0 rest x d.1 d.2) head both
+        (λ l bs mid rest h d. held_read collection.Array items (formats_of f) l (item_at (raws (formats_of f) l) outer bs) levels all mid h d.0 rest x d.1 d.2) head both
 
     -- the same, of what is left under another name
     pub array_takes_to : (t u w : Input) (r : Remaining) (x : B) → ((front : List Raw) → P front → items (append front no_raws) x)
@@ -163,16 +165,16 @@ module _ (s0 : Input) (P : List Raw → Type 0) (f g : Formats) (levels inside :
     pub array_refused : {w : Input} (allowed : ReadErrorCode → Bool) (k : ErrorCode) (at : ℕ) → Step s s0 Head → Refuses allowed s0 w k at (NoItems items (formats_of f) levels (remaining_of all))
         → Refuses allowed s w k at (λ l bs. IsNotRead (PassesTags (AsArray items)) (item_at (raws (formats_of f) l) outer bs))
     array_refused allowed k at head none = refuses_then allowed s k at s0 Head (NoItems items (formats_of f) levels (remaining_of all)) (λ l bs. IsNotRead (PassesTags (AsArray items)) (item_at (raws (formats_of f) l) outer bs))
-        (λ l bs mid h n. array_none items (formats_of f) l (item_at (raws (formats_of f) l) outer bs) levels all mid h n) head none
+        (λ l bs mid h n. held_none collection.Array items (formats_of f) l (item_at (raws (formats_of f) l) outer bs) levels all mid h n) head none
 
     -- nothing remains, so that the end can't be refused
     pub end_refused : (allowed : ReadErrorCode → Bool) (t u w : Input) (r new : Remaining) (e : Error) → new ≡ Counted 0
-        → Step s s0 Head → Step s0 t (So P r) → Step t u (IsEnd (remaining_of r)) → TakesEnd allowed new u w (Err e) → Refuses allowed s w (code_of e) (offset_of e) (λ l bs. IsNotRead (PassesTags (AsArray items)) (item_at (raws (formats_of f) l) outer bs))
+        → Step s s0 Head → Step s0 t (So P r) → Step t u (IsEnd (remaining_of r)) → TakesEndOf collection.Array allowed new u w (Err e) → Refuses allowed s w (code_of e) (offset_of e) (λ l bs. IsNotRead (PassesTags (AsArray items)) (item_at (raws (formats_of f) l) outer bs))
     end_refused allowed t u w r new e none head so end h =
         let one = step_then s s0 t Head (So P r) (λ l bs rest. Unit {0}) (λ l bs mid rest a b. tt) head so in
         let two = step_then s t u (λ l bs rest. Unit {0}) (IsEnd (remaining_of r)) (λ l bs rest. Unit {0}) (λ l bs mid rest a b. tt) one end in
         no_end_refused allowed s u w new e (λ l bs rest. Unit {0}) (λ l bs. IsNotRead (PassesTags (AsArray items)) (item_at (raws (formats_of f) l) outer bs)) none two h
 
 -- no array is there
-pub no_array_read : {B : Type 0} {w : Input} (items : Raws → B → Type 0) (allowed : ReadErrorCode → Bool) (f : model.Formats) (levels : ℕ) (s : Input) (e : Error) → RefusesArray allowed f levels s w e → Refuses allowed s w (code_of e) (offset_of e) (λ l bs. IsNotRead (PassesTags (AsArray items)) (item_at (raws f l) levels bs))
-no_array_read items allowed f levels s e h = refuses_map allowed s (code_of e) (offset_of e) (λ l bs. IsNotRead (PassesTags IsItems) (item_at (raws f l) levels bs)) (λ l bs. IsNotRead (PassesTags (AsArray items)) (item_at (raws f l) levels bs)) (λ l bs none. none_as_array items (item_at (raws f l) levels bs) none) h
+pub no_array_read : {B : Type 0} {w : Input} (items : Raws → B → Type 0) (allowed : ReadErrorCode → Bool) (f : model.Formats) (levels : ℕ) (s : Input) (e : Error) → RefusesHeadOf collection.Array allowed f levels s w e → Refuses allowed s w (code_of e) (offset_of e) (λ l bs. IsNotRead (PassesTags (AsArray items)) (item_at (raws f l) levels bs))
+no_array_read items allowed f levels s e h = refuses_map allowed s (code_of e) (offset_of e) (λ l bs. IsNotRead (PassesTags (IsHeld collection.Array)) (item_at (raws f l) levels bs)) (λ l bs. IsNotRead (PassesTags (AsArray items)) (item_at (raws f l) levels bs)) (λ l bs none. none_as_one collection.Array items (item_at (raws f l) levels bs) none) h

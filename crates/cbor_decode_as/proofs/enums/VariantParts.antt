@@ -19,7 +19,8 @@ use Rattle.cbor_decode.specs.Heads.{remaining_of}
 use Rattle.cbor_decode.specs.declared.cursor.Remaining.{Remaining}
 use Rattle.cbor_decode.proofs.facts.Steps.{step_same, step_map, step_then}
 use Rattle.cbor_decode.specs.declared.formats.Formats.{Formats}
-use Rattle.cbor_decode_as.specs.Accesses.{items_at, array_of, IsArrayHead, IsItems, IsEnd, IsNextItem, TakesEnd, TakesHead, RefusesArray}
+use Rattle.cbor_decode_as.specs.Accesses.{items_at, IsEnd, IsNextItem}
+use Rattle.cbor_decode_as.specs.Collections.{IsHeadOf, IsHeld, RefusesHeadOf, TakesEndOf, TakesHeadOf, one_of}
 use Rattle.cbor_decode_as.specs.Arrays.{AsArray, AreNone, FirstThen}
 use Rattle.cbor_decode_as.specs.Enums.{Content, alone, one, parts, IsPart, IsNothing}
 use Rattle.cbor_decode_as.specs.TaggedHeads.{in_tags, tagged}
@@ -34,6 +35,7 @@ use Rattle.cbor_decode_as.proofs.numbers.Scalars.{untagged-tagged}
 use Rattle.cbor_decode_as.proofs.arrays.Sequences.{append, no_part_rest, begins, goes_on, is_done}
 use Rattle.cbor_decode_as.proofs.arrays.Tuples.{Empty, Then, one_more, none_all, then_all, then_rest, empty_rest, first_follows}
 use Rattle.cbor_decode_as.proofs.arrays.WholeArrays.{NoItems, end_step, end_lacks, loop_begins, part_goes_on}
+use Rattle.cbor_decode.specs.declared.cursor.Collection.TheVariants as collection
 
 -- ---- the form of an error
 
@@ -144,7 +146,7 @@ module _ {A : Type 0} (reads : Raw → A → Type 0) (f : model.Formats) (levels
 
 -- items are left where the end is due
 pub end_left : {A : Type 0} (reads : Raw → A → Type 0) (f : Formats) (levels : ℕ) (all behind : Remaining) (allowed : ReadErrorCode → Bool) (s a b t : Input) (x : A) (e : Error)
-    → Step s a (Next reads (formats_of f) levels all behind) → Step a b (Item reads (formats_of f) levels all behind x) → TakesEnd allowed behind b t (Err e)
+    → Step s a (Next reads (formats_of f) levels all behind) → Step a b (Item reads (formats_of f) levels all behind x) → TakesEndOf collection.Array allowed behind b t (Err e)
     → Refuses allowed s t (code_of e) (offset_of e) (λ l bs. IsNoContent (IsPart reads) (content_at (formats_of f) l levels (form.Array all) bs))
 end_left reads f levels all behind allowed s a b t x e first second third =
     let so = loop_begins s Empty f f levels levels refl refl all tt in
@@ -223,21 +225,21 @@ parts_here f levels all s = step_same s (λ l bs rest. IsPartsHead f l (content_
     (λ l bs. record { whole = parts; is = refl; items = λ rs. refl })
 
 -- an array within the content
-one_array : (tags : _) (len : raw.Length) (read : Reads Raws) → as_one (in_tags tags (array_of len read)) ≡ (read >>= (λ rs. Ok (one (tagged tags (raw.array len rs.0)), rs.1)))
+one_array : (tags : _) (len : raw.Length) (read : Reads Raws) → as_one (in_tags tags (one_of collection.Array len read)) ≡ (read >>= (λ rs. Ok (one (tagged tags (raw.array len rs.0)), rs.1)))
 one_array tags len (Ok x) = refl
 one_array tags len (Err e) = refl
 
 pub array_here : (f : model.Formats) (levels inner : ℕ) (remaining : Remaining) (s t : Input)
-    → Step s t (λ l bs rest. IsArrayHead f l (item_at (raws f l) levels bs) inner remaining rest) → Step s t (λ l bs rest. IsPartsHead f l (content_at f l levels form.Map bs) inner remaining rest)
-array_here f levels inner remaining s t = step_map s t (λ l bs rest. IsArrayHead f l (item_at (raws f l) levels bs) inner remaining rest) (λ l bs rest. IsPartsHead f l (content_at f l levels form.Map bs) inner remaining rest)
+    → Step s t (λ l bs rest. IsHeadOf collection.Array f l (item_at (raws f l) levels bs) inner remaining rest) → Step s t (λ l bs rest. IsPartsHead f l (content_at f l levels form.Map bs) inner remaining rest)
+array_here f levels inner remaining s t = step_map s t (λ l bs rest. IsHeadOf collection.Array f l (item_at (raws f l) levels bs) inner remaining rest) (λ l bs rest. IsPartsHead f l (content_at f l levels form.Map bs) inner remaining rest)
     (λ l bs rest h. record {
       whole = λ rs. one (tagged h.tags (raw.array h.len rs));
       is = ap as_one h.is ∙ one_array h.tags h.len (items_at f l inner (remaining_of remaining) rest);
       items = λ rs. subst (λ (i : Raw). AsArray (λ rs items. rs ≡ items) i rs) (sym (untagged-tagged h.tags (raw.array h.len rs))) refl;
     })
 
-pub no_array_here : {w : Input} (f : model.Formats) (levels : ℕ) (s : Input) (allowed : ReadErrorCode → Bool) (e : Error) → RefusesArray allowed f levels s w e → RefusesParts allowed f levels form.Map s w e
-no_array_here f levels s allowed e = refuses_map allowed s (code_of e) (offset_of e) (λ l bs. IsNotRead (PassesTags IsItems) (item_at (raws f l) levels bs)) (λ l bs. IsNoContent IsItemsOf (content_at f l levels form.Map bs))
+pub no_array_here : {w : Input} (f : model.Formats) (levels : ℕ) (s : Input) (allowed : ReadErrorCode → Bool) (e : Error) → RefusesHeadOf collection.Array allowed f levels s w e → RefusesParts allowed f levels form.Map s w e
+no_array_here f levels s allowed e = refuses_map allowed s (code_of e) (offset_of e) (λ l bs. IsNotRead (PassesTags (IsHeld collection.Array)) (item_at (raws f l) levels bs)) (λ l bs. IsNoContent IsItemsOf (content_at f l levels form.Map bs))
     (λ l bs none rs rest got.
     let o = one_is (item_at (raws f l) levels bs) got.content rest got.is in
     none rs rest (record { item = o.item; is = o.is; means = subst (λ (c : Content). IsItemsOf c rs) o.same got.meaning }))
@@ -259,6 +261,6 @@ pub break_comes : (s t : Input) (behind : reader.Remaining) (b : ℕ) → b ≡ 
 break_comes s t behind b is = step_map s t (λ l bs rest. IsFirst b bs rest) (λ l bs rest. Coming reader.to_break behind false bs rest)
     (λ l bs rest h. break_left behind h.others bs rest (h.is ∙ ap (λ (n : ℕ). n ∷ h.others) is))
 
-pub parts_answer : (f : model.Formats) (levels inner : ℕ) (s t : Input) (allowed : ReadErrorCode → Bool) (r : Result Remaining Error) → TakesHead allowed f levels s t inner r → TakesParts allowed f levels form.Map s t inner r
+pub parts_answer : (f : model.Formats) (levels inner : ℕ) (s t : Input) (allowed : ReadErrorCode → Bool) (r : Result Remaining Error) → TakesHeadOf collection.Array allowed f levels s t inner r → TakesParts allowed f levels form.Map s t inner r
 parts_answer f levels inner s t allowed (Ok remaining) h = array_here f levels inner remaining s t h
 parts_answer f levels inner s t allowed (Err e) h = no_array_here f levels s allowed e h

@@ -16,7 +16,8 @@ use Rattle.cbor_decode.specs.Gives.{Limits, Step}
 use Rattle.cbor_decode.specs.Heads.{remaining_of}
 use Rattle.cbor_decode.specs.declared.cursor.Remaining.{Remaining}
 use Rattle.cbor_decode.proofs.facts.Steps.{step_map, step_then}
-use Rattle.cbor_decode_as.specs.Accesses.{items_at, array_of, IsArrayHead, IsItems, IsNextItem, RefusesArray}
+use Rattle.cbor_decode_as.specs.Accesses.{items_at, IsNextItem}
+use Rattle.cbor_decode_as.specs.Collections.{IsHeadOf, IsHeld, RefusesHeadOf, one_of}
 use Rattle.cbor_decode_as.specs.Enums.{IsVariant, IsName, Content, alone, one, parts, reads_names}
 use Rattle.cbor_decode_as.specs.Identifiers.{MeansPlace, IsIdentifier, IsLabel, IsPlaceNumber, IsFirst, IsPlace}
 use Rattle.cbor_decode_as.specs.Kinds.{kind_of}
@@ -33,6 +34,7 @@ use Rattle.cbor_decode_as.proofs.arrays.Sequences.{MustFollow, no_part_rest, beg
 use Rattle.cbor_decode_as.proofs.arrays.Tuples.{Empty}
 use Rattle.cbor_decode_as.proofs.enums.VariantHeads.{array_begins}
 use Rattle.cbor_decode_as.proofs.enums.VariantParts.{Next, none_read, as_parts, parts_are}
+use Rattle.cbor_decode.specs.declared.cursor.Collection.TheVariants as collection
 
 -- ---- identifiers
 
@@ -163,17 +165,17 @@ module _ (f : Formats) (names : List (List ℕ)) where
     is : read ≡ Ok (rs, rest)
     same : r ≡ raw.array n rs
 
-  array_is : (n : Length) (read : Reads Raws) (r : Raw) (rest : List ℕ) → array_of n read ≡ Ok (r, rest) → ArrayRead n read r rest
+  array_is : (n : Length) (read : Reads Raws) (r : Raw) (rest : List ℕ) → one_of collection.Array n read ≡ Ok (r, rest) → ArrayRead n read r rest
   array_is n (Ok x) r rest is =
       let both = ok_is (raw.array n x.0, x.1) (r, rest) is in
       record { rs = x.0; is = ap (λ (p : Raw × List ℕ). Ok (x.0, p.1)) both; same = sym (ap (λ (p : Raw × List ℕ). p.0) both) }
   array_is n (Err e) r rest is = absurd cc
 
-  module _ (l : Limits) (read : Reads Raw) (left : ℕ) (all : Remaining) (mid : List ℕ) (h : IsArrayHead f l read left all mid) where
+  module _ (l : Limits) (read : Reads Raw) (left : ℕ) (all : Remaining) (mid : List ℕ) (h : IsHeadOf collection.Array f l read left all mid) where
     -- without an identifier it is no variant
     no_array_variant : NoPart (IsName names) f left (remaining_of all) l mid → IsNotRead (PassesTags (IsVariant f names)) read
     no_array_variant none v rest got =
-        let w = within_tags h.tags (array_of h.len (items_at f l left (remaining_of all) mid)) got.item rest (sym h.is ∙ got.is) in
+        let w = within_tags h.tags (one_of collection.Array h.len (items_at f l left (remaining_of all) mid)) got.item rest (sym h.is ∙ got.is) in
         let a = array_is h.len (items_at f l left (remaining_of all) mid) w.item rest w.is in
         let means : IsVariant f names (untagged (tagged h.tags w.item)) v = subst (λ (i : Raw). IsVariant f names (untagged i) v) w.wrapped got.means in
         let within : IsVariant f names (untagged w.item) v = subst (λ (i : Raw). IsVariant f names i v) (untagged-tagged h.tags w.item) means in
@@ -185,7 +187,7 @@ module _ (f : Formats) (names : List (List ℕ)) where
     array_whole r (one x) = r
     array_whole r (parts rs) = tagged h.tags (raw.array h.len (raw.raw r rs))
 
-    first_put : (r : Raw) (others : Reads Raws) → in_tags h.tags (array_of h.len (with_front (r ∷ []) others)) ≡ (as_parts others >>= (λ c. Ok (array_whole r c.0, c.1)))
+    first_put : (r : Raw) (others : Reads Raws) → in_tags h.tags (one_of collection.Array h.len (with_front (r ∷ []) others)) ≡ (as_parts others >>= (λ c. Ok (array_whole r c.0, c.1)))
     unfolding array_whole
     first_put r (Ok x) = refl
     first_put r (Err e) = refl
@@ -204,7 +206,7 @@ module _ (f : Formats) (names : List (List ℕ)) where
         let same = subst (λ (front : List Raw). with_front front (items_at f l left (remaining_of behind) rest) ≡ items_at f l left (remaining_of all) mid) so.holds so.same in
         record {
           whole = array_whole r;
-          is = h.is ∙ ap (λ (x : Reads Raws). in_tags h.tags (array_of h.len x)) (sym same) ∙ first_put r (items_at f l left (remaining_of behind) rest);
+          is = h.is ∙ ap (λ (x : Reads Raws). in_tags h.tags (one_of collection.Array h.len x)) (sym same) ∙ first_put r (items_at f l left (remaining_of behind) rest);
           variant = λ c after is.
               let p = parts_are (items_at f l left (remaining_of behind) rest) c after is in
               let v : IsVariant f names (raw.array h.len (raw.raw r p.rs)) (i, parts p.rs) = (legacy, name.means, refl) in
@@ -213,7 +215,7 @@ module _ (f : Formats) (names : List (List ℕ)) where
         }
 
   -- an item of this kind is an array's
-  array_items : (r : Raw) → kind_of r ≡ kind.array → (rs : Raws) × IsItems (untagged r) rs
+  array_items : (r : Raw) → kind_of r ≡ kind.array → (rs : Raws) × (IsHeld collection.Array) (untagged r) rs
   array_items (raw.unsigned w n) is = absurd cc
   array_items (raw.negative w n) is = absurd cc
   array_items (raw.bytes c) is = absurd cc
@@ -233,15 +235,15 @@ module _ (f : Formats) (names : List (List ℕ)) where
     abbrev Nothing : Limits → List ℕ → Type 0
     Nothing l bs = HasShape shape.Array bs → IsNotRead (PassesTags (IsVariant f names)) (item_at (raws f l) levels bs)
 
-    pub no_array : {w : Input} → RefusesArray allowed f levels s w e → RefusesShaped (HasShape shape.Array) allowed f names levels s w e
-    no_array = refuses_map allowed s (code_of e) (offset_of e) (λ l bs. IsNotRead (PassesTags IsItems) (item_at (raws f l) levels bs)) Nothing
+    pub no_array : {w : Input} → RefusesHeadOf collection.Array allowed f levels s w e → RefusesShaped (HasShape shape.Array) allowed f names levels s w e
+    no_array = refuses_map allowed s (code_of e) (offset_of e) (λ l bs. IsNotRead (PassesTags (IsHeld collection.Array)) (item_at (raws f l) levels bs)) Nothing
         (λ l bs none begins v rest got.
         let i = array_items got.item (array_begins f l levels bs rest got.item begins got.is) in
         none i.0 rest (record { item = got.item; is = got.is; means = i.1 }))
 
-    module _ (a : Input) (left : ℕ) (all : Remaining) (head : Step s a (λ l bs rest. IsArrayHead f l (item_at (raws f l) levels bs) left all rest)) where
+    module _ (a : Input) (left : ℕ) (all : Remaining) (head : Step s a (λ l bs rest. IsHeadOf collection.Array f l (item_at (raws f l) levels bs) left all rest)) where
       abbrev Head : Limits → List ℕ → List ℕ → Type 0
-      Head l bs rest = IsArrayHead f l (item_at (raws f l) levels bs) left all rest
+      Head l bs rest = IsHeadOf collection.Array f l (item_at (raws f l) levels bs) left all rest
 
       -- no item comes
       pub no_first : {w : Input} → Refuses allowed a w (code_of e) (offset_of e) (λ l bs. (after : reader.Remaining) (rest : List ℕ) → next_at end_in_array (remaining_of all) bs ≡ Ok (Some after, rest) → ⊥) → RefusesShaped (HasShape shape.Array) allowed f names levels s w e
@@ -261,11 +263,11 @@ module _ (f : Formats) (names : List (List ℕ)) where
     next : next_at end_in_array (remaining_of all) bs ≡ Ok (Some (remaining_of behind), start)
     name : IsRead (IsName names) (item_at (raws f l) left start) i rest
 
-  pub array_variant_taken : (levels left outer i : ℕ) (all behind : Remaining) (s a b t : Input) → outer ≡ left → f.legacy_enums ≡ true → Step s a (λ l bs rest. IsArrayHead f l (item_at (raws f l) levels bs) left all rest)
+  pub array_variant_taken : (levels left outer i : ℕ) (all behind : Remaining) (s a b t : Input) → outer ≡ left → f.legacy_enums ≡ true → Step s a (λ l bs rest. IsHeadOf collection.Array f l (item_at (raws f l) levels bs) left all rest)
       → Step a b (Next (IsName names) f left all behind) → Step b t (λ l bs rest. IsRead (IsName names) (item_at (raws f l) left bs) i rest)
       → Step s t (λ l bs rest. HasShape shape.Array bs → IsVariantHead f names l (item_at (raws f l) levels bs) outer i (form.Array behind) rest)
   array_variant_taken levels left outer i all behind s a b t same legacy head next name =
-      step_then s a t (λ l bs rest. IsArrayHead f l (item_at (raws f l) levels bs) left all rest) (NextName left all behind i) (λ l bs rest. HasShape shape.Array bs → IsVariantHead f names l (item_at (raws f l) levels bs) outer i (form.Array behind) rest)
+      step_then s a t (λ l bs rest. IsHeadOf collection.Array f l (item_at (raws f l) levels bs) left all rest) (NextName left all behind i) (λ l bs rest. HasShape shape.Array bs → IsVariantHead f names l (item_at (raws f l) levels bs) outer i (form.Array behind) rest)
       (λ l bs mid rest h n _. subst (λ (k : ℕ). IsVariantHead f names l (item_at (raws f l) levels bs) k i (form.Array behind) rest) (sym same)
       (array_variant_here l (item_at (raws f l) levels bs) left all mid h behind i n.start rest legacy n.next n.name)) head
       (step_then a b t (Next (IsName names) f left all behind) (λ l bs rest. IsRead (IsName names) (item_at (raws f l) left bs) i rest) (NextName left all behind i)

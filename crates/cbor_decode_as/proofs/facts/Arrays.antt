@@ -1,7 +1,6 @@
 -- Published: arrays, of which one item is read after the other.
 
 -- an array as its items, and what is read as one
-pub use Rattle.cbor_decode_as.proofs.arrays.ArrayHeads.{array_read}
 pub use Rattle.cbor_decode_as.proofs.arrays.WholeArrays.{NoItems, array_refused, array_takes_to}
 pub use Rattle.cbor_decode_as.proofs.arrays.WholeArrays.{end_lacks, end_refused, end_step, end_twice}
 pub use Rattle.cbor_decode_as.proofs.arrays.WholeArrays.{loop_begins, loop_goes_on, loop_refused}

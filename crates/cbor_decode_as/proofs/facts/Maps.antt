@@ -1,7 +1,5 @@
 -- Published: maps, of which one pair is read after the other.
 
--- what is read as a map
-pub use Rattle.cbor_decode_as.proofs.maps.MapHeads.{map_is, map_none, map_read, none_as_map}
 -- what was read so far of its pairs
 pub use Rattle.cbor_decode_as.proofs.maps.PairsRead.{Made, NoKey, PairMayFollow, PairsDone}
 pub use Rattle.cbor_decode_as.proofs.maps.PairsRead.{PairsSoFar, another, append_pairs, first_pair}
@@ -13,5 +11,3 @@ pub use Rattle.cbor_decode_as.proofs.maps.BadKeys.{map_stops}
 -- the next key
 pub use Rattle.cbor_decode_as.proofs.maps.NextKeys.{key_asks, key_next, key_refused, none_is_key}
 pub use Rattle.cbor_decode_as.proofs.maps.NextKeys.{there}
--- where an item of another kind stands
-pub use Rattle.cbor_decode_as.proofs.heads.BeginningFaults.{other_no_map}

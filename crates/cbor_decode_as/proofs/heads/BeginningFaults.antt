@@ -14,6 +14,8 @@ use Rattle.cbor_decode.specs.Gives.{FailsBy, IsAt, IsErrorOf, Limits, limits, Re
 use Rattle.cbor_decode.specs.Heads.{passed}
 use Rattle.cbor_decode.specs.declared.cursor.Remaining.{Remaining}
 use Rattle.cbor_decode.specs.declared.head.Head.{Head}
+use Rattle.cbor_decode.specs.declared.cursor.Collection.{Collection}
+use Rattle.cbor_decode.specs.declared.cursor.Collection.TheVariants as collection
 use Rattle.cbor_decode.specs.declared.head.Head.TheVariants as head
 use Rattle.cbor_decode.specs.declared.refusal.Refused.{Refused}
 use Rattle.cbor_decode.specs.declared.refusal.Refused.TheVariants as refused
@@ -27,22 +29,19 @@ use Rattle.cbor_model.specs.Readable.{PassesTags, untagged}
 use Rattle.cbor_decode_as.specs.Kinds.{kind_of}
 use Rattle.cbor_decode_as.specs.Kinds as kinds
 use Rattle.cbor_decode_as.specs.Maps.{AsMap}
-use Rattle.cbor_decode_as.specs.Takes.{IsNotRead, ReportsFault, any_item, raws}
+use Rattle.cbor_decode_as.specs.Collections.{head_of}
+use Rattle.cbor_decode_as.specs.Takes.{ReportsFault, any_item, raws}
 use Rattle.cbor_decode_as.proofs.heads.ItemsBehind.{kind_behind}
-use Rattle.cbor_decode_as.proofs.maps.MapHeads.{no_map}
 use Rattle.cbor_decode_as.specs.declared.head.HeadAt.{HeadAt}
 use Rattle.cbor_decode_as.proofs.heads.PassedOver.{found_is, unopened_stops}
 use Rattle.cbor_decode_as.proofs.numbers.Scalars.{reported_why}
 use Rattle.cbor_decode_as.proofs.refused.Faults.{reports_then}
 
 -- no level is left for the items, or the pairs
-array_deep : (left : ℕ) (r : Remaining) (l : Limits) (bs : List ℕ) → left ≡ 0 → passed (behind_any left (head.Array r) l bs) ≡ Err (before too_deep bs)
-unfolding array_at
-array_deep left r l bs none = rw none refl
-
-map_deep : (left : ℕ) (r : Remaining) (l : Limits) (bs : List ℕ) → left ≡ 0 → passed (behind_any left (head.Map r) l bs) ≡ Err (before too_deep bs)
-unfolding map_at
-map_deep left r l bs none = rw none refl
+deep : (of : Collection) (left : ℕ) (r : Remaining) (l : Limits) (bs : List ℕ) → left ≡ 0 → passed (behind_any left (head_of of r) l bs) ≡ Err (before too_deep bs)
+unfolding array_at map_at
+deep collection.Array left r l bs none = rw none refl
+deep collection.Map left r l bs none = rw none refl
 
 -- the error of a refusal
 pub kept_code : (kept : ReadError) (r : Refused) (e : Error) (k : ReadErrorCode) (at : ℕ) → r ≡ refused.Kept → IsAt k at kept → IsErrorOf kept r e → (code_of e ≡ error_code k) × (offset_of e ≡ at)
@@ -85,36 +84,10 @@ module _ (kind : Remaining → Head) (allowed : ReadErrorCode → Bool) (levels 
     )
 
     -- no level is left
-    deep_fault : (kept : ReadError) (r : Refused) → ((l : Limits) (bs : List ℕ) → passes l bs ≡ Err (before too_deep bs)) → r ≡ refused.Kept → IsAt reading.RecursionLimitExceeded m.offset kept → IsErrorOf kept r e → BeginningFault kind allowed levels s e
-    deep_fault kept r deep keeps at made = inl (found_fault (λ bs reports.
+    pub deep_fault : (of : Collection) (kept : ReadError) (r : Refused) (n : Remaining) → found.head ≡ head_of of n → found.levels ≡ 0 → r ≡ refused.Kept → IsAt reading.RecursionLimitExceeded m.offset kept → IsErrorOf kept r e → BeginningFault kind allowed levels s e
+    deep_fault of kept r n is none keeps at made = inl (found_fault (λ bs reports.
         let told = kept_code kept r e reading.RecursionLimitExceeded m.offset keeps at made in
         let l = limits m bs in
         let there : offset_of e + length bs ≡ m.offset + length bs = ap (λ (k : ℕ). k + length bs) told.1 in
-        subst (λ (k : ErrorCode). FailsBy (ReportsIo allowed) k (m.offset + length bs) (offset_of e) (passes l bs)) (sym told.0) (length bs, there, deep l bs)))
-
-    pub array_deep_fault : (kept : ReadError) (r : Refused) (n : Remaining) → found.head ≡ head.Array n → found.levels ≡ 0 → r ≡ refused.Kept → IsAt reading.RecursionLimitExceeded m.offset kept → IsErrorOf kept r e → BeginningFault kind allowed levels s e
-    array_deep_fault kept r n is none = deep_fault kept r (λ l bs. ap (λ (h : Head). passed (behind_any found.levels h l bs)) is ∙ array_deep found.levels n l bs none)
-
-    pub map_deep_fault : (kept : ReadError) (r : Refused) (n : Remaining) → found.head ≡ head.Map n → found.levels ≡ 0 → r ≡ refused.Kept → IsAt reading.RecursionLimitExceeded m.offset kept → IsErrorOf kept r e → BeginningFault kind allowed levels s e
-    map_deep_fault kept r n is none = deep_fault kept r (λ l bs. ap (λ (h : Head). passed (behind_any found.levels h l bs)) is ∙ map_deep found.levels n l bs none)
-
--- ---- items of another kind
-
-as_map_kind : {A : Type 0} (pairs : RawPairs → A → Type 0) (r : Raw) (x : A) → AsMap pairs r x → kind_of r ≡ kinds.map
-as_map_kind pairs (raw.unsigned w n) x is = absurd is
-as_map_kind pairs (raw.negative w n) x is = absurd is
-as_map_kind pairs (raw.bytes c) x is = absurd is
-as_map_kind pairs (raw.text c) x is = absurd is
-as_map_kind pairs (raw.bytes_chunks cs) x is = absurd is
-as_map_kind pairs (raw.text_chunks cs) x is = absurd is
-as_map_kind pairs (raw.array l rs) x is = absurd is
-as_map_kind pairs (raw.map l rs) x is = refl
-as_map_kind pairs (raw.tag w n r) x is = absurd is
-as_map_kind pairs (raw.simple s) x is = absurd is
-as_map_kind pairs (raw.float w bits) x is = absurd is
-
--- where one of another kind stands no map is read
-pub other_no_map : {A : Type 0} (pairs : RawPairs → A → Type 0) (f : Formats) (l : Limits) (levels : ℕ) (bs : List ℕ) → OtherBegins head.Map levels bs → IsNotRead (PassesTags (AsMap pairs)) (item_at (raws f l) levels bs)
-other_no_map pairs f l levels bs o x rest got =
-    let of = kind_behind f l levels o.left o.head bs o.rest rest got.item o.is got.is in
-    no_map o.head o.other (sym (as_map_kind pairs (untagged got.item) x got.means) ∙ of)
+        let stops = ap (λ (h : Head). passed (behind_any found.levels h l bs)) is ∙ deep of found.levels n l bs none in
+        subst (λ (k : ErrorCode). FailsBy (ReportsIo allowed) k (m.offset + length bs) (offset_of e) (passes l bs)) (sym told.0) (length bs, there, stops)))

@@ -20,7 +20,7 @@ use Rattle.cbor_decode_as.proofs.heads.OfKind.{kinds}
 use Rattle.cbor_decode_as.proofs.heads.Openings.{opened_below, opened_is}
 
 -- an item of another kind than a tag is within no more tags
-within_none : (r : Raw) → (kind_of r ≡ kind.tag → ⊥) → untagged r ≡ r
+pub within_none : (r : Raw) → (kind_of r ≡ kind.tag → ⊥) → untagged r ≡ r
 within_none (raw.unsigned w n) other = refl
 within_none (raw.negative w n) other = refl
 within_none (raw.bytes c) other = refl

@@ -19,11 +19,13 @@ use Rattle.cbor_decode.specs.declared.cursor.Remaining.{Remaining}
 use Rattle.cbor_decode.specs.Heads.{remaining_of}
 use Rattle.cbor_decode.specs.Cursor.{behind_next}
 use Rattle.cbor_decode_as.specs.Cases.{IsBadKey, ReportsBadKey}
-use Rattle.cbor_decode_as.specs.MapAccesses.{Comes, IsMapHead, key_front, map_of, pairs_at}
+use Rattle.cbor_decode_as.specs.MapAccesses.{Comes, key_front, pairs_at}
+use Rattle.cbor_decode_as.specs.Collections.{IsHeadOf, one_of}
 use Rattle.cbor_decode_as.specs.TaggedHeads.{in_tags}
 use Rattle.cbor_decode_as.specs.Takes.{ExcusedBy, raws}
 use Rattle.cbor_decode_as.proofs.maps.PairsRead.{PairsSoFar, with_pairs}
 use Rattle.cbor_decode_as.proofs.numbers.Scalars.{excused_or, reported_by}
+use Rattle.cbor_decode.specs.declared.cursor.Collection.TheVariants as collection
 
 -- ---- faults
 
@@ -122,8 +124,8 @@ pairs_stop f l levels r bs at bad =
 
 -- nor is the map, of which some pairs were read
 pub map_stops : (P : List (Raw × Raw) → Type 0) (f : Formats) (l : Limits) (levels left : ℕ) (all r : Remaining) (bs mid rest : List ℕ) (at : ℕ)
-    → IsMapHead f l (item_at (raws f l) levels bs) left all mid → PairsSoFar P f left (remaining_of all) (remaining_of r) l mid rest → IsBadKey f (remaining_of r) l rest at → FailsAs wrong_struct_format l.total at (item_at (raws f l) levels bs)
+    → IsHeadOf collection.Map f l (item_at (raws f l) levels bs) left all mid → PairsSoFar P f left (remaining_of all) (remaining_of r) l mid rest → IsBadKey f (remaining_of r) l rest at → FailsAs wrong_struct_format l.total at (item_at (raws f l) levels bs)
 map_stops P f l levels left all r bs mid rest at head so bad =
     let stops = pairs_stop f l left (remaining_of r) rest at bad in
     let whole = sym so.same ∙ ap (with_pairs so.front) stops.2 in
-    (stops.0, stops.1, head.is ∙ ap (λ (pairs : _). in_tags head.tags (map_of head.len pairs)) whole)
+    (stops.0, stops.1, head.is ∙ ap (λ (pairs : _). in_tags head.tags (one_of collection.Map head.len pairs)) whole)

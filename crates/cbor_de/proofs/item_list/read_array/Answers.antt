@@ -19,24 +19,24 @@ returns-in-Err-clause-read g c =
 pub returns-in-Ok-read_tuple-clause-read : goal.returns-in-Ok-read_tuple-clause-read
 returns-in-Ok-read_tuple-clause-read g c =
     let old = c.args.de.now.decoder in
-    let mid = c.array_head.new.decoder in
+    let mid = c.head.new.decoder in
     let s = g.R.Source.source old.source in
     let m = g.R.Source.source mid.source in
     let t = g.R.Source.source c.read_tuple.new.de.decoder.source in
-    array_answer (λ (f : Formats). g.T.ReadableTuple.parts (context f g.R.Source.lends)) old.formats mid.formats c.array_head.ensures.formats old.levels mid.levels c.in-Ok.remaining g.R.Source.refusals s m t c.in-Ok.ensures.read (Ok c.in-Ok-read_tuple.tuple) c.in-Ok-read_tuple.ensures.read
+    array_answer (λ (f : Formats). g.T.ReadableTuple.parts (context f g.R.Source.lends)) old.formats mid.formats c.head.ensures.formats old.levels mid.levels c.in-Ok.remaining g.R.Source.refusals s m t c.in-Ok.ensures.read (Ok c.in-Ok-read_tuple.tuple) c.in-Ok-read_tuple.ensures.read
 
 pub returns-in-Err-read_tuple-clause-read : goal.returns-in-Err-read_tuple-clause-read
 returns-in-Err-read_tuple-clause-read g c =
     let old = c.args.de.now.decoder in
-    let mid = c.array_head.new.decoder in
+    let mid = c.head.new.decoder in
     let s = g.R.Source.source old.source in
     let m = g.R.Source.source mid.source in
     let t = g.R.Source.source c.read_tuple.new.de.decoder.source in
-    array_answer (λ (f : Formats). g.T.ReadableTuple.parts (context f g.R.Source.lends)) old.formats mid.formats c.array_head.ensures.formats old.levels mid.levels c.in-Ok.remaining g.R.Source.refusals s m t c.in-Ok.ensures.read (Err c.in-Err-read_tuple.e) c.in-Err-read_tuple.ensures.read
+    array_answer (λ (f : Formats). g.T.ReadableTuple.parts (context f g.R.Source.lends)) old.formats mid.formats c.head.ensures.formats old.levels mid.levels c.in-Ok.remaining g.R.Source.refusals s m t c.in-Ok.ensures.read (Err c.in-Err-read_tuple.e) c.in-Err-read_tuple.ensures.read
 
 pub returns-in-Err-read_tuple-clause-form : goal.returns-in-Err-read_tuple-clause-form
 returns-in-Err-read_tuple-clause-form g c =
-    later_in g.T.ReadableTuple.wrong_forms c.args.de.now.decoder.formats c.array_head.new.decoder.formats _ _ c.in-Err-read_tuple.e c.array_head.ensures.formats c.in-Ok.ensures.read.took c.in-Err-read_tuple.ensures.form
+    later_in g.T.ReadableTuple.wrong_forms c.args.de.now.decoder.formats c.head.new.decoder.formats _ _ c.in-Err-read_tuple.e c.head.ensures.formats c.in-Ok.ensures.read.took c.in-Err-read_tuple.ensures.form
 
 -- ---- the fault
 
@@ -48,7 +48,7 @@ returns-in-Err-clause-own_fault g c =
 pub returns-in-Err-read_tuple-clause-own_fault : goal.returns-in-Err-read_tuple-clause-own_fault
 returns-in-Err-read_tuple-clause-own_fault g c =
     let old = c.args.de.now.decoder in
-    let mid = c.array_head.new.decoder in
+    let mid = c.head.new.decoder in
     let s = g.R.Source.source old.source in
     let m = g.R.Source.source mid.source in
     let r = c.in-Ok.remaining in

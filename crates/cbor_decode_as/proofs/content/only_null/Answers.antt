@@ -27,9 +27,9 @@ returns-in_err-read_unit-clause-read g c =
     let here = subst (λ (n : ℕ). TakesItem g.R.Source.refusals (formats_of old.formats) (PassesTags IsUnit) n a (g.R.Source.source c.read_unit.new.decoder.source) (Err e)) c.in_ok-expect_item.ensures.settings.levels at in
     rw (passed.1, passed.2) (item_lacks (PassesTags IsUnit) (formats_of old.formats) old.levels c.args.remaining c.expect_item.new.remaining g.R.Source.refusals s e a c.in_ok-expect_item.ensures.read here)
 
-pub returns-in_err-end_array-clause-read : goal.returns-in_err-end_array-clause-read
-returns-in_err-end_array-clause-read g c =
-    let passed = err_from_is_err_and c.from_residual-in_err-end_array.result c.from_residual-in_err-end_array.ensures.1 in
+pub returns-in_err-end-clause-read : goal.returns-in_err-end-clause-read
+returns-in_err-end-clause-read g c =
+    let passed = err_from_is_err_and c.from_residual-in_err-end.result c.from_residual-in_err-end.ensures.1 in
     let old = c.args.decoder.now in
     let mid = c.expect_item.new.decoder in
     let s = g.R.Source.source old.source in
@@ -38,7 +38,7 @@ returns-in_err-end_array-clause-read g c =
     let x = tt in
     let at = subst (λ (f : Formats). TakesItem g.R.Source.refusals (formats_of f) (PassesTags IsUnit) mid.levels a b (Ok x)) c.in_ok-expect_item.ensures.settings.formats c.in_ok-read_unit.ensures.read in
     let here = subst (λ (n : ℕ). TakesItem g.R.Source.refusals (formats_of old.formats) (PassesTags IsUnit) n a b (Ok x)) c.in_ok-expect_item.ensures.settings.levels at in
-    rw (passed.1, passed.2) (end_left (PassesTags IsUnit) old.formats old.levels c.args.remaining c.expect_item.new.remaining g.R.Source.refusals s a b (g.R.Source.source c.end_array.new.decoder.source) x c.in_err-end_array.field-0.0 c.in_ok-expect_item.ensures.read here c.in_err-end_array.ensures.read)
+    rw (passed.1, passed.2) (end_left (PassesTags IsUnit) old.formats old.levels c.args.remaining c.expect_item.new.remaining g.R.Source.refusals s a b (g.R.Source.source c.end.new.decoder.source) x c.in_err-end.field-0.0 c.in_ok-expect_item.ensures.read here c.in_err-end.ensures.read)
 
 pub returns-clause-read : goal.returns-clause-read
 returns-clause-read g c =
@@ -50,7 +50,7 @@ returns-clause-read g c =
     let x = tt in
     let at = subst (λ (f : Formats). TakesItem g.R.Source.refusals (formats_of f) (PassesTags IsUnit) mid.levels a b (Ok x)) c.in_ok-expect_item.ensures.settings.formats c.in_ok-read_unit.ensures.read in
     let here = subst (λ (n : ℕ). TakesItem g.R.Source.refusals (formats_of old.formats) (PassesTags IsUnit) n a b (Ok x)) c.in_ok-expect_item.ensures.settings.levels at in
-    only_taken (PassesTags IsUnit) (formats_of old.formats) old.levels c.args.remaining c.expect_item.new.remaining s a b (g.R.Source.source c.end_array.new.decoder.source) x c.in_ok-expect_item.ensures.read here c.in_ok-end_array.ensures.read
+    only_taken (PassesTags IsUnit) (formats_of old.formats) old.levels c.args.remaining c.expect_item.new.remaining s a b (g.R.Source.source c.end.new.decoder.source) x c.in_ok-expect_item.ensures.read here c.in_ok-end.ensures.read
 
 -- ---- the fault
 
@@ -72,20 +72,20 @@ returns-in_err-read_unit-clause-fault g c =
     let here = subst (λ (n : ℕ). ItemFault g.R.Source.refusals n a e) c.in_ok-expect_item.ensures.settings.levels there in
     rw (passed.1, passed.2) (first_content g.R.Source.refusals old.levels s e c.args.remaining a c.expect_item.new.remaining c.in_ok-expect_item.ensures.read here)
 
-pub returns-in_err-end_array-clause-fault : goal.returns-in_err-end_array-clause-fault
-returns-in_err-end_array-clause-fault g c =
-    let passed = err_from_is_err_and c.from_residual-in_err-end_array.result c.from_residual-in_err-end_array.ensures.1 in
+pub returns-in_err-end-clause-fault : goal.returns-in_err-end-clause-fault
+returns-in_err-end-clause-fault g c =
+    let passed = err_from_is_err_and c.from_residual-in_err-end.result c.from_residual-in_err-end.ensures.1 in
     let old = c.args.decoder.now in
     let mid = c.expect_item.new.decoder in
     let s = g.R.Source.source old.source in
     let a = g.R.Source.source mid.source in
     let b = g.R.Source.source c.read_unit.new.decoder.source in
-    let e = c.in_err-end_array.field-0.0 in
+    let e = c.in_err-end.field-0.0 in
     let x = tt in
     let at = subst (λ (f : Formats). TakesItem g.R.Source.refusals (formats_of f) (PassesTags IsUnit) mid.levels a b (Ok x)) c.in_ok-expect_item.ensures.settings.formats c.in_ok-read_unit.ensures.read in
     let here = subst (λ (n : ℕ). TakesItem g.R.Source.refusals (formats_of old.formats) (PassesTags IsUnit) n a b (Ok x)) c.in_ok-expect_item.ensures.settings.levels at in
     rw (passed.1, passed.2) (end_content g.R.Source.refusals old.levels s e c.args.remaining (PassesTags IsUnit) (formats_of old.formats)
-    (end_there g.R.Source.refusals old.levels s e c.args.remaining a c.expect_item.new.remaining c.in_ok-expect_item.ensures.read (PassesTags IsUnit) (formats_of old.formats) b x here c.in_err-end_array.ensures.read.1))
+    (end_there g.R.Source.refusals old.levels s e c.args.remaining a c.expect_item.new.remaining c.in_ok-expect_item.ensures.read (PassesTags IsUnit) (formats_of old.formats) b x here c.in_err-end.ensures.read.1))
 
 -- ---- memory
 
@@ -107,8 +107,8 @@ returns-in_err-read_unit-clause-memory g c =
     let here = subst (λ (n : ℕ). MemoryFor (λ r. ⊥) (formats_of old.formats) (PassesTags IsUnit) n a e) c.in_ok-expect_item.ensures.settings.levels there in
     rw (passed.1, passed.2) (first_memory g.R.Source.refusals old.levels s e c.args.remaining a c.expect_item.new.remaining c.in_ok-expect_item.ensures.read (λ r. ⊥) (formats_of old.formats) (PassesTags IsUnit) here)
 
-pub returns-in_err-end_array-clause-memory : goal.returns-in_err-end_array-clause-memory
-returns-in_err-end_array-clause-memory g c =
-    let passed = err_from_is_err_and c.from_residual-in_err-end_array.result c.from_residual-in_err-end_array.ensures.1 in
+pub returns-in_err-end-clause-memory : goal.returns-in_err-end-clause-memory
+returns-in_err-end-clause-memory g c =
+    let passed = err_from_is_err_and c.from_residual-in_err-end.result c.from_residual-in_err-end.ensures.1 in
     let old = c.args.decoder.now in
-    rw (passed.1, passed.2) (unasked_content g.R.Source.refusals old.levels (g.R.Source.source old.source) c.in_err-end_array.field-0.0 c.args.remaining (λ r. ⊥) (formats_of old.formats) (PassesTags IsUnit) c.in_err-end_array.ensures.memory)
+    rw (passed.1, passed.2) (unasked_content g.R.Source.refusals old.levels (g.R.Source.source old.source) c.in_err-end.field-0.0 c.args.remaining (λ r. ⊥) (formats_of old.formats) (PassesTags IsUnit) c.in_err-end.ensures.memory)

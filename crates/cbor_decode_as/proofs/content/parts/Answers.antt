@@ -15,11 +15,11 @@ returns-in-Array-clause-read g c =
 pub returns-in-Map-clause-read : goal.returns-in-Map-clause-read
 returns-in-Map-clause-read g c =
     let old = c.args.decoder.now in
-    let new = c.array_head.new.decoder in
-    rw c.in-Map.is (parts_answer (formats_of old.formats) old.levels new.levels (g.R.Source.source old.source) (g.R.Source.source new.source) g.R.Source.refusals c.array_head.result c.array_head.ensures.read)
+    let new = c.head.new.decoder in
+    rw c.in-Map.is (parts_answer (formats_of old.formats) old.levels new.levels (g.R.Source.source old.source) (g.R.Source.source new.source) g.R.Source.refusals c.head.result c.head.ensures.read)
 
 pub returns-in-Map-clause-alone : goal.returns-in-Map-clause-alone
-returns-in-Map-clause-alone g c = rw c.in-Map.is (untold c.array_head.result)
+returns-in-Map-clause-alone g c = rw c.in-Map.is (untold c.head.result)
 
 -- ---- whatever follows
 
@@ -31,8 +31,8 @@ returns-in-Array-clause-opened g c =
 pub returns-in-Map-clause-opened : goal.returns-in-Map-clause-opened
 returns-in-Map-clause-opened g c =
     let old = c.args.decoder.now in
-    let new = c.array_head.new.decoder in
-    rw c.in-Map.is (parts_in_map g.R.Source.refusals old.levels new.levels (g.R.Source.source old.source) (g.R.Source.source new.source) c.array_head.result c.array_head.ensures.opened)
+    let new = c.head.new.decoder in
+    rw c.in-Map.is (parts_in_map g.R.Source.refusals old.levels new.levels (g.R.Source.source old.source) (g.R.Source.source new.source) c.head.result c.head.ensures.opened)
 
 pub returns-in-Alone-clause-opened : goal.returns-in-Alone-clause-opened
 returns-in-Alone-clause-opened g c =
@@ -43,10 +43,10 @@ returns-in-Alone-clause-opened g c =
 -- ---- the fault, and memory
 
 pub returns-in-Map-clause-fault : goal.returns-in-Map-clause-fault
-returns-in-Map-clause-fault g c = rw c.in-Map.is c.array_head.ensures.fault
+returns-in-Map-clause-fault g c = rw c.in-Map.is c.head.ensures.fault
 
 pub returns-in-Map-clause-memory : goal.returns-in-Map-clause-memory
-returns-in-Map-clause-memory g c = rw c.in-Map.is c.array_head.ensures.memory
+returns-in-Map-clause-memory g c = rw c.in-Map.is c.head.ensures.memory
 
 pub returns-in-Alone-clause-fault : goal.returns-in-Alone-clause-fault
 returns-in-Alone-clause-fault g c = rw c.in-Alone.is (any_text (Some (codes "invalid type: unit variant, expected tuple variant")) (code_of c.message.result) c.message.ensures.code, c.message.ensures.offset)

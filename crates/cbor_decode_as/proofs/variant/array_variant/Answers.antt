@@ -26,21 +26,21 @@ pub returns-in_err-expect_item-clause-read : goal.returns-in_err-expect_item-cla
 returns-in_err-expect_item-clause-read g c =
     let passed = err_from_is_err_and c.from_residual-in_err-expect_item.result c.from_residual-in_err-expect_item.ensures.1 in
     let old = c.args.decoder.now in
-    let inner = c.array_head.new.decoder in
+    let inner = c.head.new.decoder in
     rw (passed.1, passed.2) (no_first (formats_of old.formats) (texts c.args.names.now) g.R.Source.refusals old.levels (g.R.Source.source old.source) c.in_err-expect_item.field-0.0 (g.R.Source.source inner.source) inner.levels c.in_ok-remaining.remaining c.in_ok-remaining.ensures.read c.in_err-expect_item.ensures.read)
 
 pub returns-in_err-expect_item-clause-cases : goal.returns-in_err-expect_item-clause-cases
 returns-in_err-expect_item-clause-cases g c =
     let passed = err_from_is_err_and c.from_residual-in_err-expect_item.result c.from_residual-in_err-expect_item.ensures.1 in
     let old = c.args.decoder.now in
-    let inner = c.array_head.new.decoder in
+    let inner = c.head.new.decoder in
     rw (passed.1, passed.2) (empty_stands (formats_of old.formats) old.levels inner.levels c.in_ok-remaining.remaining (g.R.Source.source old.source) (g.R.Source.source inner.source) c.in_err-expect_item.field-0.0 c.in_ok-remaining.ensures.opened c.in_err-expect_item.ensures.none)
 
 pub returns-in_err-index-clause-read : goal.returns-in_err-index-clause-read
 returns-in_err-index-clause-read g c =
     let passed = err_from_is_err_and c.from_residual-in_err-index.result c.from_residual-in_err-index.ensures.1 in
     let old = c.args.decoder.now in
-    let inner = c.array_head.new.decoder in
+    let inner = c.head.new.decoder in
     let mid = c.expect_item.new.decoder in
     let b = g.R.Source.source mid.source in
     let t = g.R.Source.source c.variant_name.new.decoder.source in
@@ -55,7 +55,7 @@ returns-in_err-index-clause-read g c =
 pub returns-clause-read : goal.returns-clause-read
 returns-clause-read g c =
     let old = c.args.decoder.now in
-    let inner = c.array_head.new.decoder in
+    let inner = c.head.new.decoder in
     let mid = c.expect_item.new.decoder in
     let new = c.variant_name.new.decoder in
     let b = g.R.Source.source mid.source in
@@ -80,7 +80,7 @@ pub returns-in_err-expect_item-clause-opened : goal.returns-in_err-expect_item-c
 returns-in_err-expect_item-clause-opened g c =
     let passed = err_from_is_err_and c.from_residual-in_err-expect_item.result c.from_residual-in_err-expect_item.ensures.1 in
     let old = c.args.decoder.now in
-    let inner = c.array_head.new.decoder in
+    let inner = c.head.new.decoder in
     rw (passed.1, passed.2) (empty_refused (formats_of old.formats) (texts c.args.names.now) old.levels (g.R.Source.source old.source) (g.R.Source.source inner.source) inner.levels c.in_ok-remaining.remaining c.in_ok-remaining.ensures.opened
     g.R.Source.refusals c.in_err-expect_item.field-0.0 c.in_err-expect_item.ensures.read)
 
@@ -88,7 +88,7 @@ pub returns-in_err-index-clause-opened : goal.returns-in_err-index-clause-opened
 returns-in_err-index-clause-opened g c =
     let passed = err_from_is_err_and c.from_residual-in_err-index.result c.from_residual-in_err-index.ensures.1 in
     let old = c.args.decoder.now in
-    let inner = c.array_head.new.decoder in
+    let inner = c.head.new.decoder in
     let mid = c.expect_item.new.decoder in
     let b = g.R.Source.source mid.source in
     let t = g.R.Source.source c.variant_name.new.decoder.source in
@@ -103,7 +103,7 @@ returns-in_err-index-clause-opened g c =
 pub returns-clause-opened : goal.returns-clause-opened
 returns-clause-opened g c =
     let old = c.args.decoder.now in
-    let inner = c.array_head.new.decoder in
+    let inner = c.head.new.decoder in
     let mid = c.expect_item.new.decoder in
     let new = c.variant_name.new.decoder in
     let b = g.R.Source.source mid.source in
@@ -130,7 +130,7 @@ pub returns-in_err-expect_item-clause-fault : goal.returns-in_err-expect_item-cl
 returns-in_err-expect_item-clause-fault g c =
     let passed = err_from_is_err_and c.from_residual-in_err-expect_item.result c.from_residual-in_err-expect_item.ensures.1 in
     let old = c.args.decoder.now in
-    let inner = c.array_head.new.decoder in
+    let inner = c.head.new.decoder in
     let s = g.R.Source.source old.source in
     let e = c.in_err-expect_item.field-0.0 in
     rw (passed.1, passed.2) (fault_of_form g.R.Source.refusals old.levels s e shape.Array
@@ -140,7 +140,7 @@ pub returns-in_err-index-clause-fault : goal.returns-in_err-index-clause-fault
 returns-in_err-index-clause-fault g c =
     let passed = err_from_is_err_and c.from_residual-in_err-index.result c.from_residual-in_err-index.ensures.1 in
     let old = c.args.decoder.now in
-    let inner = c.array_head.new.decoder in
+    let inner = c.head.new.decoder in
     let mid = c.expect_item.new.decoder in
     let s = g.R.Source.source old.source in
     let b = g.R.Source.source mid.source in
@@ -167,7 +167,7 @@ pub returns-in_err-index-clause-memory : goal.returns-in_err-index-clause-memory
 returns-in_err-index-clause-memory g c =
     let passed = err_from_is_err_and c.from_residual-in_err-index.result c.from_residual-in_err-index.ensures.1 in
     let old = c.args.decoder.now in
-    let inner = c.array_head.new.decoder in
+    let inner = c.head.new.decoder in
     let mid = c.expect_item.new.decoder in
     let b = g.R.Source.source mid.source in
     let e = c.in_err-index.field-0.0 in

@@ -30,9 +30,9 @@ returns-in_err-item-clause-read g c =
     let here = subst (λ (n : ℕ). TakesItem g.R.Source.refusals (formats_of old.decoder.formats) (reads old.decoder.formats) n a (g.R.Source.source c.deserialize.new.de.decoder.source) (Err e)) c.in_ok-expect_item.ensures.settings.levels at in
     rw (passed.1, passed.2) (item_lacks (reads old.decoder.formats) (formats_of old.decoder.formats) old.decoder.levels c.args.remaining c.expect_item.new.remaining g.R.Source.refusals s e a c.in_ok-expect_item.ensures.read here)
 
-pub returns-in_err-end_array-clause-read : goal.returns-in_err-end_array-clause-read
-returns-in_err-end_array-clause-read g c =
-    let passed = err_from_is_err_and c.from_residual-in_err-end_array.result c.from_residual-in_err-end_array.ensures.1 in
+pub returns-in_err-end-clause-read : goal.returns-in_err-end-clause-read
+returns-in_err-end-clause-read g c =
+    let passed = err_from_is_err_and c.from_residual-in_err-end.result c.from_residual-in_err-end.ensures.1 in
     let old = c.args.self.now in
     let mid = c.expect_item.new.decoder in
     let s = g.R.Source.source old.decoder.source in
@@ -42,7 +42,7 @@ returns-in_err-end_array-clause-read g c =
     let x = c.in_ok-item.item in
     let at = subst (λ (f : Formats). TakesItem g.R.Source.refusals (formats_of f) (reads f) mid.levels a b (Ok x)) c.in_ok-expect_item.ensures.settings.formats c.in_ok-item.ensures.read in
     let here = subst (λ (n : ℕ). TakesItem g.R.Source.refusals (formats_of old.decoder.formats) (reads old.decoder.formats) n a b (Ok x)) c.in_ok-expect_item.ensures.settings.levels at in
-    rw (passed.1, passed.2) (end_left (reads old.decoder.formats) old.decoder.formats old.decoder.levels c.args.remaining c.expect_item.new.remaining g.R.Source.refusals s a b (g.R.Source.source c.end_array.new.decoder.source) x c.in_err-end_array.field-0.0 c.in_ok-expect_item.ensures.read here c.in_err-end_array.ensures.read)
+    rw (passed.1, passed.2) (end_left (reads old.decoder.formats) old.decoder.formats old.decoder.levels c.args.remaining c.expect_item.new.remaining g.R.Source.refusals s a b (g.R.Source.source c.end.new.decoder.source) x c.in_err-end.field-0.0 c.in_ok-expect_item.ensures.read here c.in_err-end.ensures.read)
 
 pub returns-clause-read : goal.returns-clause-read
 returns-clause-read g c =
@@ -55,7 +55,7 @@ returns-clause-read g c =
     let x = c.in_ok-item.item in
     let at = subst (λ (f : Formats). TakesItem g.R.Source.refusals (formats_of f) (reads f) mid.levels a b (Ok x)) c.in_ok-expect_item.ensures.settings.formats c.in_ok-item.ensures.read in
     let here = subst (λ (n : ℕ). TakesItem g.R.Source.refusals (formats_of old.decoder.formats) (reads old.decoder.formats) n a b (Ok x)) c.in_ok-expect_item.ensures.settings.levels at in
-    only_taken (reads old.decoder.formats) (formats_of old.decoder.formats) old.decoder.levels c.args.remaining c.expect_item.new.remaining s a b (g.R.Source.source c.end_array.new.decoder.source) x c.in_ok-expect_item.ensures.read here c.in_ok-end_array.ensures.read
+    only_taken (reads old.decoder.formats) (formats_of old.decoder.formats) old.decoder.levels c.args.remaining c.expect_item.new.remaining s a b (g.R.Source.source c.end.new.decoder.source) x c.in_ok-expect_item.ensures.read here c.in_ok-end.ensures.read
 
 -- ---- a wrong form
 
@@ -90,9 +90,9 @@ returns-in_err-item-clause-fault g c =
     let here = subst (λ (n : ℕ). told (formats_of old.decoder.formats) n a e) c.in_ok-expect_item.ensures.settings.levels at in
     rw (passed.1, passed.2) (inr (inl (record { behind = c.expect_item.new.remaining; place = a; step = c.in_ok-expect_item.ensures.read; holds = here })))
 
-pub returns-in_err-end_array-clause-fault : goal.returns-in_err-end_array-clause-fault
-returns-in_err-end_array-clause-fault g c =
-    let passed = err_from_is_err_and c.from_residual-in_err-end_array.result c.from_residual-in_err-end_array.ensures.1 in
+pub returns-in_err-end-clause-fault : goal.returns-in_err-end-clause-fault
+returns-in_err-end-clause-fault g c =
+    let passed = err_from_is_err_and c.from_residual-in_err-end.result c.from_residual-in_err-end.ensures.1 in
     let old = c.args.self.now in
     let mid = c.expect_item.new.decoder in
     let s = g.R.Source.source old.decoder.source in
@@ -102,7 +102,7 @@ returns-in_err-end_array-clause-fault g c =
     let x = c.in_ok-item.item in
     let at = subst (λ (f : Formats). TakesItem g.R.Source.refusals (formats_of f) (reads f) mid.levels a b (Ok x)) c.in_ok-expect_item.ensures.settings.formats c.in_ok-item.ensures.read in
     let here = subst (λ (n : ℕ). TakesItem g.R.Source.refusals (formats_of old.decoder.formats) (reads old.decoder.formats) n a b (Ok x)) c.in_ok-expect_item.ensures.settings.levels at in
-    rw (passed.1, passed.2) (inr (inr (end_there g.R.Source.refusals old.decoder.levels s c.in_err-end_array.field-0.0 c.args.remaining a c.expect_item.new.remaining c.in_ok-expect_item.ensures.read (reads old.decoder.formats) (formats_of old.decoder.formats) b x here c.in_err-end_array.ensures.read.1)))
+    rw (passed.1, passed.2) (inr (inr (end_there g.R.Source.refusals old.decoder.levels s c.in_err-end.field-0.0 c.args.remaining a c.expect_item.new.remaining c.in_ok-expect_item.ensures.read (reads old.decoder.formats) (formats_of old.decoder.formats) b x here c.in_err-end.ensures.read.1)))
 
 -- ---- memory
 
@@ -126,8 +126,8 @@ returns-in_err-item-clause-memory g c =
     let here = subst (λ (n : ℕ). MemoryFor asks (formats_of old.decoder.formats) (reads old.decoder.formats) n a e) c.in_ok-expect_item.ensures.settings.levels at in
     rw (passed.1, passed.2) (first_memory g.R.Source.refusals old.decoder.levels s e c.args.remaining a c.expect_item.new.remaining c.in_ok-expect_item.ensures.read asks (formats_of old.decoder.formats) (reads old.decoder.formats) here)
 
-pub returns-in_err-end_array-clause-memory : goal.returns-in_err-end_array-clause-memory
-returns-in_err-end_array-clause-memory g c =
-    let passed = err_from_is_err_and c.from_residual-in_err-end_array.result c.from_residual-in_err-end_array.ensures.1 in
+pub returns-in_err-end-clause-memory : goal.returns-in_err-end-clause-memory
+returns-in_err-end-clause-memory g c =
+    let passed = err_from_is_err_and c.from_residual-in_err-end.result c.from_residual-in_err-end.ensures.1 in
     let old = c.args.self.now in
-    rw (passed.1, passed.2) (unasked_content g.R.Source.refusals old.decoder.levels (g.R.Source.source old.decoder.source) c.in_err-end_array.field-0.0 c.args.remaining (g.T.Readable.asks_memory (asks_for g.R.Source.refusals g.R.Source.lends)) (formats_of old.decoder.formats) (g.T.Readable.reads (context old.decoder.formats g.R.Source.lends)) c.in_err-end_array.ensures.memory)
+    rw (passed.1, passed.2) (unasked_content g.R.Source.refusals old.decoder.levels (g.R.Source.source old.decoder.source) c.in_err-end.field-0.0 c.args.remaining (g.T.Readable.asks_memory (asks_for g.R.Source.refusals g.R.Source.lends)) (formats_of old.decoder.formats) (g.T.Readable.reads (context old.decoder.formats g.R.Source.lends)) c.in_err-end.ensures.memory)
