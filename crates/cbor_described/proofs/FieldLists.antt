@@ -14,7 +14,7 @@ use Rattle.cbor_decode.specs.declared.formats.Formats.{Formats}
 use Rattle.cbor_decode.specs.declared.cursor.Remaining.{Remaining}
 use Rattle.cbor_de.specs.Fields.{Slots, none_yet, AreHeld}
 use Rattle.cbor_described.specs.FieldLists.{over, NamesLacking, ReadBefore, slots_over, FieldTaken, FieldRefused, MemoryForField, MemoryForSlot, TakesSlot, TakesField}
-use Rattle.cbor_decode_as.specs.MapAccesses.{IsMapHead}
+use Rattle.cbor_decode_as.specs.Collections.{IsHeadOf}
 use Rattle.cbor_model.specs.Raw.{Raw}
 use Rattle.cbor_de.specs.Structs.{FieldOf, IsAny, IsMapOf, MeansOneField}
 use Rattle.cbor_decode_as.specs.Takes.{TakesItem, formats_of, raws, IsRead, IsNotRead, Refuses}
@@ -25,6 +25,7 @@ use Rattle.cbor_de.specs.declared.field.Field.TheVariants.{Known}
 use Rattle.cbor_de.proofs.facts.Structs.{Has, LacksAt, ValueAt, reads_at, put}
 use Rattle.cbor_de.proofs.facts.Structs.{StructSoFar, NoStruct, FieldNamed, struct_begins, field_read, field_twice, field_unread, other_passed, other_unread}
 use Rattle.cbor_de.proofs.facts.Structs.{known_other}
+use Rattle.cbor_decode.specs.declared.cursor.Collection.TheVariants as collection
 
 pair_is : {A B : Type 0} (p : A × B) (a : A) (b : B) → p.0 ≡ a → p.1 ≡ b → p ≡ (a, b)
 pair_is p a b one two = ap (λ x. (x, p.1)) one ∙ ap (λ y. (a, y)) two
@@ -270,7 +271,7 @@ lacking_is (d ∷ fields) (name ∷ names) slots code (inr h) = let w = lacking_
 module _ {S : Type 0} (keyed : Raw → Field → Type 0) (fields : List (FieldOf S)) where
   -- after the head no field was read
   pub begins_with : (slots : Slots fields) → slots ≡ none_yet fields → {s t : Input} {f g : Formats} {outer levels : ℕ} {all : Remaining}
-      → Step s t (λ l bs rest. IsMapHead (formats_of f) l (item_at (raws (formats_of f) l) outer bs) levels all rest) → g ≡ f → StructSoFar keyed fields slots s f outer t g levels all
+      → Step s t (λ l bs rest. IsHeadOf collection.Map (formats_of f) l (item_at (raws (formats_of f) l) outer bs) levels all rest) → g ≡ f → StructSoFar keyed fields slots s f outer t g levels all
   begins_with slots none {s} {t} {f} {g} {outer} {levels} {all} head formats =
       subst (λ (slots : Slots fields). StructSoFar keyed fields slots s f outer t g levels all) (sym none) (struct_begins keyed fields head formats)
 

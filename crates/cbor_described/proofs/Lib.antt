@@ -6,3 +6,6 @@ pub mod Makings
 pub mod FieldForms
 pub mod FieldFaults
 pub mod VariantFaults
+pub mod FirstBytes
+pub mod VariantNames
+pub mod VariantMemory

@@ -1,3 +1,4 @@
 pub mod Contents
+pub mod EnumMemory
 pub mod FieldLists
 pub mod OneOfs

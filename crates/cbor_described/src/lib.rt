@@ -11,6 +11,7 @@ mod field_slot;
 mod fields_to_eight;
 mod fields_to_twelve;
 mod one_of;
+mod one_of_to_eight;
 mod parts;
 mod tuple_fields;
 mod variant_list;

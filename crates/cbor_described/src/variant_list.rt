@@ -1,6 +1,7 @@
 //! Lists of variants, of which enums are read.
 
 ghost use Rattle.std.specs.Prelude.{◌≡◌, IfErr, MatchOption, Ok, OnOk};
+ghost use Rattle.cbor_read.specs.Source.{asks_for};
 ghost use Rattle.cbor_decode.specs.Decoder.{SameSettings};
 ghost use Rattle.cbor_decode_as.specs.Enums.{IsEnum};
 ghost use Rattle.cbor_decode_as.specs.Identifiers.{texts};
@@ -11,6 +12,7 @@ ghost use Rattle.cbor_parts.specs.Keys.{AreKeysOf, named_keys, keys_of};
 ghost use Rattle.cbor_de.specs.Forms.{MayReportContent, any_of, enum_form};
 ghost use Rattle.cbor_de.specs.Calls as call;
 ghost use Rattle.cbor_described.specs.Contents.{OwnContentFault};
+ghost use Rattle.cbor_described.specs.EnumMemory.{AsksForEnum, MemoryForContent};
 
 use crate::parts::{ReadParts, ReadableParts};
 use cbor_de::steps::{leave_to, no_part, parts, variant_at_hand, variant_head};
@@ -27,6 +29,7 @@ pub trait Variant: Sized + Drop {
     ghost use Rattle.std.specs.Prelude.{Bool};
     ghost use Rattle.cbor_model.specs.Readable.{Context};
     ghost use Rattle.cbor_io.specs.declared.error.Error.{Error};
+    ghost use Rattle.cbor_read.specs.Source.{Asks};
     ghost use Rattle.cbor_decode_as.specs.Enums.{Content};
     ghost use Rattle.cbor_decode_as.specs.declared.variant.Form.{Form};
     ghost use Rattle.cbor_de.specs.Forms.{WrongForms};
@@ -39,6 +42,9 @@ pub trait Variant: Sized + Drop {
 
     // Whether a refusal reports the fault of the bytes, if it reports one: that of the content.
     ghost reports_faults: { Bool };
+
+    // For which content memory may be asked.
+    ghost asks_memory: { Asks → Content → Type 0 };
 
     // How an identifier alone is refused, if it is.
     ghost alone: { Form → Error → Type 0 };
@@ -71,6 +77,10 @@ pub trait ReadVariant<'de, R: Read<'de>>: Variant {
             (formats_of de.old.decoder.formats) form (R.source de.old.decoder.source)) }
         ensures fault { IfErr result (OwnContentFault R.refusals Self.reports_faults
             de.old.decoder.levels form (R.source de.old.decoder.source)) }
+        ensures memory { IfErr result (MemoryForContent
+            (Self.asks_memory (asks_for R.refusals R.lends)) (formats_of de.old.decoder.formats)
+            (Self.means (context de.old.decoder.formats R.lends)) de.old.decoder.levels form
+            (R.source de.old.decoder.source)) }
         ensures alone { IfErr result (Self.alone form) }
         ensures formats { de.new.decoder.formats ≡ de.old.decoder.formats };
 }
@@ -79,12 +89,15 @@ impl Variant for () {
     ghost use Rattle.std.specs.Prelude.{true};
     ghost use Rattle.cbor_decode_as.specs.Enums.{IsNothing};
     ghost use Rattle.cbor_de.specs.Forms.{unit_form};
+    ghost use Rattle.cbor_described.specs.EnumMemory.{AsksNone};
 
     ghost means = { λ c content u. IsNothing content u };
 
     ghost wrong_forms = { unit_form };
 
     ghost reports_faults = { true };
+
+    ghost asks_memory = { λ a. AsksNone };
 
     ghost alone = { λ form e. Unit {0} };
 
@@ -109,12 +122,15 @@ impl<T: Readable> Variant for Newtype<T> {
     ghost use Rattle.cbor_decode_as.specs.Variants.{ReportsAlone, alone_text};
     ghost use Rattle.cbor_de.specs.Calls.{reports_any};
     ghost use Rattle.cbor_de.specs.Forms.{any_of, part_form};
+    ghost use Rattle.cbor_described.specs.EnumMemory.{AsksForPart};
 
     ghost means = { λ c content y. IsPart (T.reads c) content y.0 };
 
     ghost wrong_forms = { any_of part_form T.wrong_forms };
 
     ghost reports_faults = { reports_any T.passes_over T.total T.reports_faults };
+
+    ghost asks_memory = { λ a. AsksForPart (T.asks_memory a) };
 
     ghost alone = { ReportsAlone (alone_text (codes "newtype")) };
 
@@ -147,12 +163,15 @@ impl<F: ReadableTuple + AtMostEightParts> Variant for Tuple<F> {
     ghost use Rattle.std.specs.Prelude.{codes};
     ghost use Rattle.cbor_decode_as.specs.Enums.{AreParts};
     ghost use Rattle.cbor_decode_as.specs.Variants.{ReportsAlone, alone_text};
+    ghost use Rattle.cbor_described.specs.EnumMemory.{AsksForParts};
 
     ghost means = { λ c content y. AreParts (F.parts c) content y.0 };
 
     ghost wrong_forms = { F.wrong_forms };
 
     ghost reports_faults = { F.reports_faults };
+
+    ghost asks_memory = { λ a. AsksForParts };
 
     ghost alone = { ReportsAlone (alone_text (codes "tuple")) };
 }
@@ -209,12 +228,15 @@ where
     ghost use Rattle.cbor_decode_as.specs.Enums.{IsPart};
     ghost use Rattle.cbor_decode_as.specs.Variants.{ReportsAlone, alone_text};
     ghost use Rattle.cbor_de.specs.Forms.{any_of, part_form};
+    ghost use Rattle.cbor_described.specs.EnumMemory.{AsksForPart};
 
     ghost means = { λ c content y. IsPart (N.Parts.reads (named_keys N.names) c) content y.0 };
 
     ghost wrong_forms = { any_of part_form N.Parts.wrong_forms };
 
     ghost reports_faults = { N.Parts.reports_faults };
+
+    ghost asks_memory = { λ a. AsksForPart (N.Parts.asks_memory (named_keys N.names) a) };
 
     ghost alone = { ReportsAlone (alone_text (codes "struct")) };
 }
@@ -253,6 +275,7 @@ pub enum Never {}
 pub(crate) trait VariantList: Sized + Drop {
     ghost use Rattle.std.specs.Prelude.{ℕ, Bool};
     ghost use Rattle.cbor_model.specs.Readable.{Context};
+    ghost use Rattle.cbor_read.specs.Source.{Asks};
     ghost use Rattle.cbor_decode_as.specs.Enums.{Content};
     ghost use Rattle.cbor_de.specs.Forms.{WrongForms};
 
@@ -264,6 +287,9 @@ pub(crate) trait VariantList: Sized + Drop {
 
     // Whether the refusals of each report the faults of the bytes.
     ghost reports_faults: { Bool };
+
+    // For which content memory may be asked, of the variant in each place.
+    ghost asks_memory: { Asks → ℕ → Content → Type 0 };
 
     // Reads the content of the i-th variant where it is at hand, without room for an error. Else
     // nothing is taken.
@@ -287,18 +313,25 @@ pub(crate) trait ReadVariants<'de, R: Read<'de>>: VariantList {
             (formats_of de.old.decoder.formats) form (R.source de.old.decoder.source)) }
         ensures fault { IfErr result (OwnContentFault R.refusals Self.reports_faults
             de.old.decoder.levels form (R.source de.old.decoder.source)) }
+        ensures memory { IfErr result (MemoryForContent
+            (Self.asks_memory (asks_for R.refusals R.lends) i) (formats_of de.old.decoder.formats)
+            (Self.means (context de.old.decoder.formats R.lends) i) de.old.decoder.levels form
+            (R.source de.old.decoder.source)) }
         ensures formats { de.new.decoder.formats ≡ de.old.decoder.formats };
 }
 
 impl VariantList for Never {
     ghost use Rattle.std.specs.Prelude.{true};
     ghost use Rattle.cbor_de.specs.Forms.{never};
+    ghost use Rattle.cbor_described.specs.EnumMemory.{asks_no_variant};
 
     ghost means = { λ c i content x. ⊥ };
 
     ghost wrong_forms = { never };
 
     ghost reports_faults = { true };
+
+    ghost asks_memory = { λ a. asks_no_variant };
 
     #[inline(always)]
     fn variant_at_hand<R: Source>(
@@ -319,6 +352,7 @@ impl<'de, R: Read<'de>> ReadVariants<'de, R> for Never {
 impl<V: Variant, Vs: VariantList> VariantList for OneOf<V, Vs> {
     ghost use Rattle.cbor_de.specs.Calls.{and_reports};
     ghost use Rattle.cbor_de.specs.Forms.{any_of};
+    ghost use Rattle.cbor_described.specs.EnumMemory.{asks_either};
     ghost use Rattle.cbor_described.specs.OneOfs.{either};
 
     ghost means = { λ c. either (V.means c) (Vs.means c) };
@@ -326,6 +360,8 @@ impl<V: Variant, Vs: VariantList> VariantList for OneOf<V, Vs> {
     ghost wrong_forms = { any_of V.wrong_forms Vs.wrong_forms };
 
     ghost reports_faults = { and_reports V.reports_faults Vs.reports_faults };
+
+    ghost asks_memory = { λ a. asks_either (V.asks_memory a) (Vs.asks_memory a) };
 
     #[inline(always)]
     fn variant_at_hand<R: Source>(
@@ -373,6 +409,11 @@ pub(crate) fn read_variants<'de, R: Read<'de>, E: ReadVariants<'de, R>>(
     ensures taken { OnOk result (call.Advances R.source de.old de.new) }
     ensures form { IfErr result (call.MayReport R.source (any_of enum_form E.wrong_forms) de.old) }
     ensures fault { IfErr result (call.OwnFault R.source R.refusals E.reports_faults de.old) }
+    ensures memory { IfErr result (call.MemoryFor R.source
+        (AsksForEnum (texts names.now) (asks_for R.refusals R.lends)
+        (E.asks_memory (asks_for R.refusals R.lends)))
+        (PassesTags (IsEnum (formats_of de.old.decoder.formats) (texts names.now)
+        (E.means (context de.old.decoder.formats R.lends)))) de.old) }
     ensures settings { SameSettings de.old.decoder de.new.decoder }
 {
     let outer = de.levels_left();
@@ -393,6 +434,11 @@ fn variants_within<'de, R: Read<'de>, E: ReadVariants<'de, R>>(
     ensures taken { OnOk result (call.Advances R.source de.old de.new) }
     ensures form { IfErr result (call.MayReport R.source (any_of enum_form E.wrong_forms) de.old) }
     ensures fault { IfErr result (call.OwnFault R.source R.refusals E.reports_faults de.old) }
+    ensures memory { IfErr result (call.MemoryFor R.source
+        (AsksForEnum (texts names.now) (asks_for R.refusals R.lends)
+        (E.asks_memory (asks_for R.refusals R.lends)))
+        (PassesTags (IsEnum (formats_of de.old.decoder.formats) (texts names.now)
+        (E.means (context de.old.decoder.formats R.lends)))) de.old) }
     ensures formats { de.new.decoder.formats ≡ de.old.decoder.formats }
 {
     match variant_at_hand(de, names) {
@@ -415,6 +461,10 @@ fn content<'de, R: Read<'de>, E: ReadVariants<'de, R>>(
         (formats_of de.old.decoder.formats) form (R.source de.old.decoder.source)) }
     ensures fault { IfErr result (OwnContentFault R.refusals E.reports_faults
         de.old.decoder.levels form (R.source de.old.decoder.source)) }
+    ensures memory { IfErr result (MemoryForContent
+        (E.asks_memory (asks_for R.refusals R.lends) i) (formats_of de.old.decoder.formats)
+        (E.means (context de.old.decoder.formats R.lends) i) de.old.decoder.levels form
+        (R.source de.old.decoder.source)) }
     ensures formats { de.new.decoder.formats ≡ de.old.decoder.formats }
 {
     match E::variant_at_hand(de, form, i) {
@@ -435,6 +485,11 @@ fn variants_slow<'de, R: Read<'de>, E: ReadVariants<'de, R>>(
     ensures taken { OnOk result (call.Advances R.source de.old de.new) }
     ensures form { IfErr result (call.MayReport R.source (any_of enum_form E.wrong_forms) de.old) }
     ensures fault { IfErr result (call.OwnFault R.source R.refusals E.reports_faults de.old) }
+    ensures memory { IfErr result (call.MemoryFor R.source
+        (AsksForEnum (texts names.now) (asks_for R.refusals R.lends)
+        (E.asks_memory (asks_for R.refusals R.lends)))
+        (PassesTags (IsEnum (formats_of de.old.decoder.formats) (texts names.now)
+        (E.means (context de.old.decoder.formats R.lends)))) de.old) }
     ensures formats { de.new.decoder.formats ≡ de.old.decoder.formats }
 {
     let (index, form) = variant_head(de, names)?;

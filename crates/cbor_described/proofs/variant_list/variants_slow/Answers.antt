@@ -8,6 +8,10 @@ use Rattle.cbor_de.proofs.facts.Forms.{began_err, enum_reported, of_left, right_
 use Rattle.std.proofs.lemmas.Result.{err_from_is_err_and}
 use Rattle.cbor_decode_as.proofs.facts.Refusals.{always}
 use Rattle.cbor_described.proofs.VariantFaults.{enum_told}
+use Rattle.cbor_read.specs.Source.{asks_for}
+use Rattle.std.proofs.Common.{IfErr, subst}
+use Rattle.cbor_described.specs.EnumMemory.{MemoryForContent}
+use Rattle.cbor_described.proofs.VariantMemory.{enum_asked, head_memory}
 use Rattle.cbor_described.proofs.variant_list.variants_slow.Goals as goal
 
 pub returns-in_err-index-clause-read : goal.returns-in_err-index-clause-read
@@ -51,3 +55,24 @@ returns-clause-fault g c =
     let old = c.args.de.now.decoder in
     let mid = c.variant_head.new.de.decoder in
     enum_told g.R.Source.refusals (formats_of old.formats) (texts c.args.names.now) old.levels mid.levels c.in_ok-index.index c.in_ok-index.form (g.R.Source.source old.source) (g.R.Source.source mid.source) g.E.VariantList.reports_faults c.read_variant.result c.in_ok-index.ensures.opened c.read_variant.ensures.fault
+
+-- ---- memory
+
+pub returns-in_err-index-clause-memory : goal.returns-in_err-index-clause-memory
+returns-in_err-index-clause-memory g c =
+    let passed = err_from_is_err_and c.from_residual.result c.from_residual.ensures.1 in
+    let old = c.args.de.now.decoder in
+    let a = asks_for g.R.Source.refusals g.R.Source.lends in
+    rw (passed.1, passed.2) (head_memory (texts c.args.names.now) (g.E.VariantList.means (context old.formats g.R.Source.lends)) a (g.E.VariantList.asks_memory a) (formats_of old.formats) old.levels (g.R.Source.source old.source) c.in_err-index.field-0.0 c.in_err-index.ensures.memory)
+
+pub returns-clause-memory : goal.returns-clause-memory
+returns-clause-memory g c =
+    let old = c.args.de.now.decoder in
+    let mid = c.variant_head.new.de.decoder in
+    let means = λ (f : Formats). g.E.VariantList.means (context f g.R.Source.lends) in
+    let a = asks_for g.R.Source.refusals g.R.Source.lends in
+    let asks = g.E.VariantList.asks_memory a in
+    let t = g.R.Source.source mid.source in
+    let r = c.read_variant.result in
+    enum_asked (texts c.args.names.now) (means old.formats) a asks (formats_of old.formats) old.levels mid.levels c.in_ok-index.index c.in_ok-index.form (g.R.Source.source old.source) t r c.in_ok-index.ensures.read
+    (subst (λ (f : Formats). IfErr r (MemoryForContent (asks c.in_ok-index.index) (formats_of f) (means f c.in_ok-index.index) mid.levels c.in_ok-index.form t)) c.in_ok-index.ensures.formats c.read_variant.ensures.memory)

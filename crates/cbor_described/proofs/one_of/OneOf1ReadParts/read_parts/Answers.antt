@@ -5,7 +5,7 @@ use Rattle.cbor_decode_as.specs.Identifiers.{texts}
 use Rattle.cbor_decode_as.specs.Takes.{context, formats_of}
 use Rattle.cbor_decode_as.specs.Enums.{IsEnum}
 use Rattle.cbor_described.specs.OneOfs.{either, no_variant, list1}
-use Rattle.cbor_described.proofs.Makings.{not_made}
+use Rattle.cbor_described.proofs.Makings.{memory_made, not_made}
 use Rattle.cbor_described.proofs.one_of.OneOf1ReadParts.read_parts.Goals as goal
 
 pub returns-in-Err-clause-read : goal.returns-in-Err-clause-read
@@ -15,3 +15,8 @@ returns-in-Err-clause-read g c =
     let same : texts c.args.keys.now.names.now ≡ texts c.args.keys.now.names.now = refl in
     not_made (λ (x : OneOf1 g.row.A.Denot). list1 x) (λ (names : List (List ℕ)). PassesTags (IsEnum k.formats names (either (g.A.Variant.means k) no_variant))) g.R.Source.refusals (formats_of old.formats) old.levels (g.R.Source.source old.source) (g.R.Source.source c.read_variants.new.de.decoder.source)
     same c.in-Err.e c.in-Err.ensures.read
+
+pub returns-in-Err-clause-memory : goal.returns-in-Err-clause-memory
+returns-in-Err-clause-memory g c =
+    let old = c.args.de.now.decoder in
+    memory_made (formats_of old.formats) old.levels (g.R.Source.source old.source) c.in-Err.e (λ (x : OneOf1 g.row.A.Denot). list1 x) _ _ c.in-Err.ensures.memory

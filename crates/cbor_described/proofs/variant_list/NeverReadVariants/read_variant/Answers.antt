@@ -7,3 +7,6 @@ pub returns-clause-fault : goal.returns-clause-fault
 returns-clause-fault g c =
     let old = c.args.de.now.decoder in
     said_if_any g.R.Source.refusals (g.R.Source.source old.source) c.message.result (any_content old.levels c.args._form) (Some (codes "unknown variant")) c.message.ensures.code c.message.ensures.offset
+
+pub returns-clause-memory : goal.returns-clause-memory
+returns-clause-memory g c out bs reports x rest got = absurd got.meaning

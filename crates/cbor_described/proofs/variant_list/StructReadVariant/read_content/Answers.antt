@@ -9,6 +9,9 @@ use Rattle.cbor_described.proofs.OneOfs.{content_made, content_not_made}
 use Rattle.cbor_described.proofs.OneParts.{is_part, part_is}
 use Rattle.std.proofs.Common.{false}
 use Rattle.cbor_de.proofs.facts.Enums.{part_any}
+use Rattle.cbor_read.specs.Source.{asks_for}
+use Rattle.cbor_described.specs.EnumMemory.{AsksForPart}
+use Rattle.cbor_described.proofs.VariantMemory.{content_as, part_memory}
 use Rattle.cbor_described.proofs.variant_list.StructReadVariant.read_content.Goals as goal
 
 pub returns-in-Ok-clause-read : goal.returns-in-Ok-clause-read
@@ -36,3 +39,15 @@ returns-in-Err-clause-fault g c =
     let of = g.N.Parts.ReadableParts in
     let named = λ (r : Raw) (y : NamedParts g.row.N.Denot g.row.N-Parts.Denot). of.reads (named_keys g.N.FieldNames.names) (context old.formats g.R.Source.lends) r y.0 in
     part_any false false of.reports_faults g.R.Source.refusals named (formats_of old.formats) old.levels c.args.form (g.R.Source.source old.source) c.in-Err.e c.in-Err.ensures.fault
+
+pub returns-in-Err-clause-memory : goal.returns-in-Err-clause-memory
+returns-in-Err-clause-memory g c =
+    let old = c.args.de.now.decoder in
+    let f = formats_of old.formats in
+    let s = g.R.Source.source old.source in
+    let of = g.N.Parts.ReadableParts in
+    let asks = of.asks_memory (named_keys g.N.FieldNames.names) (asks_for g.R.Source.refusals g.R.Source.lends) in
+    let reads = of.reads (named_keys g.N.FieldNames.names) (context old.formats g.R.Source.lends) in
+    let named = λ (r : Raw) (y : NamedParts g.row.N.Denot g.row.N-Parts.Denot). reads r y.0 in
+    content_as f old.levels s c.in-Err.e c.args.form (AsksForPart asks) (IsPart named) (λ content (y : Struct g.row.N.Denot g.row.N-Parts.Denot). IsPart reads content y.0) (λ content y h. (record { 0 = y.0 }, part_is reads (λ (y : NamedParts g.row.N.Denot g.row.N-Parts.Denot). y.0) content (record { 0 = y.0 }) h))
+    (part_memory f old.levels s c.in-Err.e asks named c.args.form c.in-Err.ensures.memory)

@@ -10,6 +10,7 @@ use Rattle.cbor_de.proofs.facts.Forms.{content_later}
 use Rattle.cbor_decode_as.proofs.facts.Refusals.{always}
 use Rattle.cbor_decode_as.proofs.facts.Enums.{parts_content}
 use Rattle.cbor_described.proofs.VariantFaults.{parts_told, where_then}
+use Rattle.cbor_described.proofs.VariantMemory.{parts_memory}
 use Rattle.cbor_described.proofs.variant_list.TupleReadVariant.read_content.Goals as goal
 
 pub returns-in_err-remaining-clause-read : goal.returns-in_err-remaining-clause-read
@@ -70,3 +71,14 @@ returns-in-Err-clause-fault g c =
     let mid = c.parts.new.de.decoder in
     where_then g.F.ReadableTuple.reports_faults
     (parts_told g.R.Source.refusals old.levels mid.levels c.args.form c.in_ok-remaining.remaining (g.R.Source.source old.source) (g.R.Source.source mid.source) c.in-Err.e c.in_ok-remaining.ensures.opened) c.in-Err.ensures.fault
+
+pub returns-in_err-remaining-clause-memory : goal.returns-in_err-remaining-clause-memory
+returns-in_err-remaining-clause-memory g c =
+    let passed = err_from_is_err_and c.from_residual.result c.from_residual.ensures.1 in
+    let old = c.args.de.now.decoder in
+    rw (passed.1, passed.2) (parts_memory (formats_of old.formats) old.levels (g.R.Source.source old.source) c.in_err-remaining.field-0.0 c.args.form (g.F.ReadableTuple.parts (context old.formats g.R.Source.lends)) (λ y. y.0))
+
+pub returns-in-Err-clause-memory : goal.returns-in-Err-clause-memory
+returns-in-Err-clause-memory g c =
+    let old = c.args.de.now.decoder in
+    parts_memory (formats_of old.formats) old.levels (g.R.Source.source old.source) c.in-Err.e c.args.form (g.F.ReadableTuple.parts (context old.formats g.R.Source.lends)) (λ y. y.0)
