@@ -1,3 +1,4 @@
+pub mod Lending
 pub mod Reader
 pub mod Source
 pub mod Sources

@@ -1,5 +1,5 @@
 -- What each source of this crate means.
-use Rattle.std.specs.Prelude.{◌≡◌, ℕ, ◌+◌, List, length, take, drop, Option, None, Some}
+use Rattle.std.specs.Prelude.{◌≡◌, ℕ, ◌+◌, ◌≤◌, max, List, length, take, drop, Option, None, Some}
 use Rattle.std.specs.List.Sorted.{IsPermutation}
 use Rattle.cbor_read.specs.Source.{Input, slice_input, reader_input}
 use Rattle.cbor_read.specs.declared.io_read.IoRead.{IoRead}
@@ -41,3 +41,16 @@ input_of_vec s = slice_input s.bytes.items s.taken s.buffer.items None
 -- a reader, by the bytes that it has left
 abbrev pub input_of_reader : {R : Type 0} → (R → Option (List ℕ)) → IoRead R → Input
 input_of_reader remaining s = reader_input s.peeked (remaining s.reader) s.buffer.items s.offset
+
+-- how many bytes are peeked
+abbrev pub peeked_count : Option ℕ → ℕ
+peeked_count None = 0
+peeked_count (Some b) = 1
+
+-- up to where the reader was asked for its bytes: those that were handed out, and one that is peeked
+abbrev pub asked_to : {R : Type 0} → IoRead R → ℕ
+asked_to s = s.offset + peeked_count s.peeked
+
+-- A call that wants so many bytes asks the reader for none behind them.
+abbrev pub AsksFor : {R : Type 0} → ℕ → IoRead R → IoRead R → Type 0
+AsksFor n s t = asked_to t ≤ max (asked_to s) (s.offset + n)

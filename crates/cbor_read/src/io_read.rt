@@ -5,6 +5,7 @@ ghost use Rattle.std.specs.Prelude.{OnErr, Some, None};
 ghost use Rattle.std.specs.Io.KnownBytes.{Keeps};
 ghost use Rattle.cbor_read.specs.Reader.{ByteRead, Filled, SomeRead, PieceTaken};
 ghost use Rattle.cbor_read.specs.Source.{reader_input, with_peeked, start_of_reader};
+ghost use Rattle.cbor_read.specs.Sources.{AsksFor, asked_to};
 
 use super::front::valid_in;
 use super::{EitherLifetime, Offset, Read, ReadError, ReadErrorCode, Result, Source};
@@ -54,7 +55,9 @@ impl<R: io::Read> IoRead<R> {
     /// assert_eq!(rt; source.offset(), 1);
     /// ```
     pub fn new(alloc: Global, reader: R) -> IoRead<R>
-        ensures { input_of_reader R.remaining result ≡ start_of_reader (R.remaining reader) }
+        ensures input { input_of_reader R.remaining result
+            ≡ start_of_reader (R.remaining reader) }
+        ensures asks { asked_to result ≡ 0 }
     {
         IoRead {
             reader,
@@ -73,8 +76,9 @@ impl<R: io::Read> IoRead<R> {
     /// assert_eq!(rt; source.offset(), 2);
     /// ```
     pub fn at_offset(alloc: Global, reader: R, offset: u64) -> IoRead<R>
-        ensures { input_of_reader R.remaining result
+        ensures input { input_of_reader R.remaining result
             ≡ reader_input None (R.remaining reader) [] offset }
+        ensures asks { asked_to result ≡ offset }
     {
         IoRead {
             reader,
@@ -88,8 +92,9 @@ impl<R: io::Read> IoRead<R> {
     // at the end.
     fn take_piece(&mut self, piece: &mut [u8]) -> Result<usize>
         requires { 0 < length piece.old }
-        ensures { PieceTaken (input_of_reader R.remaining self.old)
+        ensures took { PieceTaken (input_of_reader R.remaining self.old)
             (input_of_reader R.remaining self.new) piece.new result }
+        ensures asks { AsksFor (length piece.old) self.old self.new }
     {
         if self.peeked.is_some() || self.offset == u64::MAX {
             return self.take_first(piece);
@@ -104,8 +109,9 @@ impl<R: io::Read> IoRead<R> {
     #[tactic(auto, using(crate::proofs::ReaderSteps::stays_kept, crate::proofs::ReaderSteps::stays_end))]
     fn take_first(&mut self, piece: &mut [u8]) -> Result<usize>
         requires { 0 < length piece.old }
-        ensures { PieceTaken (input_of_reader R.remaining self.old)
+        ensures took { PieceTaken (input_of_reader R.remaining self.old)
             (input_of_reader R.remaining self.new) piece.new result }
+        ensures asks { AsksFor 1 self.old self.new }
     {
         match self.next()? {
             Some(byte) => {
@@ -129,6 +135,7 @@ impl<R: io::Read> IoRead<R> {
         ensures kept { OnErr result (Lengthened (input_of_reader R.remaining self.old)
             (input_of_reader R.remaining self.new) (input_of_reader R.remaining self.old).buffer
             (input_of_reader R.remaining self.new).buffer) }
+        ensures asks { AsksFor (length piece.old) self.old self.new }
     {
         let count = self.take_piece(piece)?;
         if count == 0 {
@@ -139,6 +146,7 @@ impl<R: io::Read> IoRead<R> {
     }
 
     // Takes n bytes to the buffer's end, in pieces of this size at most.
+    #[tactic(auto, using(crate::proofs::Asking::asks_more))]
     fn join(&mut self, n: usize, piece: &mut [u8]) -> Result<()>
         requires { 0 < length piece.old }
         ensures ok { OnOk result (Buffered (input_of_reader R.remaining self.old)
@@ -148,6 +156,7 @@ impl<R: io::Read> IoRead<R> {
         ensures kept { OnErr result (Lengthened (input_of_reader R.remaining self.old)
             (input_of_reader R.remaining self.new) (input_of_reader R.remaining self.old).buffer
             (input_of_reader R.remaining self.new).buffer) }
+        ensures asks { AsksFor n self.old self.new }
     {
         let mut left = n;
         'pieces: while left > 0 {
@@ -159,8 +168,13 @@ impl<R: io::Read> IoRead<R> {
 }
 
 impl<R: io::Read> Source for IoRead<R> {
-    ghost use Rattle.std.specs.Prelude.{true, false};
-    ghost use Rattle.cbor_read.specs.Source.{reader_refusals};
+    ghost use Rattle.std.specs.Prelude.{ℕ, ◌∷◌, ◌^◌, ◌≢◌, IsSome, MatchOption, take, true, false};
+    ghost use Rattle.cbor_io.specs.ReadError.{why};
+    ghost use Rattle.cbor_io.specs.declared.read_error.ReadErrorCode.TheVariants.{OutOfMemory};
+    ghost use Rattle.cbor_read.specs.Source.{reader_refusals, or_memory, MemoryWhere};
+    ghost use Rattle.cbor_read.specs.Source.{Buffered, FitsRoom, KeepsBytes, Lengthened, NextDoes};
+    ghost use Rattle.cbor_read.specs.Source.{RefusedByte, RefusedInto, RefusedPart, RefusedToBuffer};
+    ghost use Rattle.cbor_read.specs.Source.{Skipped, SkippedText, Stays, TookBehind, TookKept};
     ghost use Rattle.cbor_read.specs.Reader.{peeked_at};
     ghost use Rattle.cbor_read.specs.Sources.{input_of_reader};
 
@@ -174,7 +188,14 @@ impl<R: io::Read> Source for IoRead<R> {
 
     ghost lends = { record { whole = false; joined = false } };
 
-    fn next(&mut self) -> Result<Option<u8>> {
+    fn next(&mut self) -> Result<Option<u8>>
+        ensures does { NextDoes reader_refusals (input_of_reader R.remaining self.old)
+            (input_of_reader R.remaining self.new) result }
+        ensures counted { (input_of_reader R.remaining self.new).offset < 2 ^ 64 }
+        ensures peeked { IfSome (peeked_at self.old.offset self.old.peeked)
+            (λ b. IfOk result (λ o. o ≡ Some b)) }
+        ensures asks { AsksFor 1 self.old self.new }
+    {
         let offset = self.offset;
         fill(&mut self.reader, &mut self.peeked)?;
         let Some(byte) = self.peeked else {
@@ -187,7 +208,20 @@ impl<R: io::Read> Source for IoRead<R> {
         Ok(Some(byte))
     }
 
-    fn peek(&mut self) -> Result<Option<u8>> {
+    fn peek(&mut self) -> Result<Option<u8>>
+        ensures stays { OnOk result (Stays (input_of_reader R.remaining self.old)
+            (input_of_reader R.remaining self.new)) }
+        ensures peeked { IfOk result (λ o. peeked_at self.new.offset self.new.peeked ≡ o) }
+        ensures same { IfSome (peeked_at self.old.offset self.old.peeked)
+            (λ b. IfOk result (λ o. o ≡ Some b)) }
+        ensures front { IfOk result (λ o. MatchOption o
+            (IfSome (input_of_reader R.remaining self.old).to_come (λ bs. bs ≡ []))
+            (λ b. IfSome (input_of_reader R.remaining self.old).to_come
+            (λ bs. take 1 bs ≡ b ∷ []))) }
+        ensures err { IfErr result (RefusedByte reader_refusals
+            (input_of_reader R.remaining self.old) (input_of_reader R.remaining self.new)) }
+        ensures asks { AsksFor 1 self.old self.new }
+    {
         fill(&mut self.reader, &mut self.peeked)?;
         if self.offset == u64::MAX && self.peeked.is_some() {
             return Err(ReadError::at(ReadErrorCode::LengthOutOfRange, u64::MAX));
@@ -202,15 +236,47 @@ impl<R: io::Read> Source for IoRead<R> {
     }
 
     #[inline(always)]
-    fn advance(&mut self, n: usize) {
+    fn advance(&mut self, n: usize)
+        requires { n ≤ length {A = ℕ} [] }
+        ensures took { TookKept (input_of_reader R.remaining self.old)
+            (input_of_reader R.remaining self.new) (take n []) }
+        ensures counted { (input_of_reader R.remaining self.new).offset < 2 ^ 64 }
+        ensures asks { AsksFor 0 self.old self.new }
+    {
         self.offset += n as u64;
     }
 
-    fn clear_buffer(&mut self) {
+    #[inline(always)]
+    #[tactic(auto, using(crate::proofs::ReaderSteps::stays_same))]
+    fn gather(&mut self, n: usize)
+        ensures stays { Stays (input_of_reader R.remaining self.old)
+            (input_of_reader R.remaining self.new) }
+        ensures asks { AsksFor 0 self.old self.new }
+    {
+        let _ = n;
+    }
+
+    fn clear_buffer(&mut self)
+        ensures bytes { KeepsBytes (input_of_reader R.remaining self.old)
+            (input_of_reader R.remaining self.new) }
+        ensures empty { (input_of_reader R.remaining self.new).buffer ≡ [] }
+        ensures asks { AsksFor 0 self.old self.new }
+    {
         self.buffer.clear();
     }
 
-    fn read_to_buffer(&mut self, n: usize) -> Result<()> {
+    fn read_to_buffer(&mut self, n: usize) -> Result<()>
+        ensures ok { OnOk result (Buffered (input_of_reader R.remaining self.old)
+            (input_of_reader R.remaining self.new) n) }
+        ensures fits { OnOk result (FitsRoom (input_of_reader R.remaining self.new)) }
+        ensures err { IfErr result (RefusedToBuffer reader_refusals
+            (input_of_reader R.remaining self.old) (input_of_reader R.remaining self.new) n) }
+        ensures kept { OnErr result (Lengthened (input_of_reader R.remaining self.old)
+            (input_of_reader R.remaining self.new) (input_of_reader R.remaining self.old).buffer
+            (input_of_reader R.remaining self.new).buffer) }
+        ensures memory { IfErr result (MemoryWhere true) }
+        ensures asks { AsksFor n self.old self.new }
+    {
         if n <= SMALL {
             self.join(n, &mut [0; SMALL])
         } else {
@@ -227,14 +293,31 @@ impl<R: io::Read> Source for IoRead<R> {
     }
 
     // The vector stands in the buffer's place, so that the bytes go straight after it.
-    fn read_to_vec(&mut self, n: usize, out: &mut Vec<u8>) -> Result<()> {
+    fn read_to_vec(&mut self, n: usize, out: &mut Vec<u8>) -> Result<()>
+        ensures ok { OnOk result (TookBehind (input_of_reader R.remaining self.old)
+            (input_of_reader R.remaining self.new) n out.old.items out.new.items) }
+        ensures err { IfErr result (RefusedInto (or_memory reader_refusals)
+            (input_of_reader R.remaining self.old) (input_of_reader R.remaining self.new) n) }
+        ensures kept { OnErr result (Lengthened (input_of_reader R.remaining self.old)
+            (input_of_reader R.remaining self.new) out.old.items out.new.items) }
+        ensures asks { AsksFor n self.old self.new }
+    {
         mem::swap(&mut self.buffer, out);
         let answer = self.read_to_buffer(n);
         mem::swap(&mut self.buffer, out);
         answer
     }
 
-    fn read_into(&mut self, buf: &mut [u8]) -> Result<()> {
+    #[tactic(auto, using(crate::proofs::Asking::asks_more))]
+    fn read_into(&mut self, buf: &mut [u8]) -> Result<()>
+        ensures ok { OnOk result (TookKept (input_of_reader R.remaining self.old)
+            (input_of_reader R.remaining self.new) buf.new) }
+        ensures err { IfErr result (RefusedInto reader_refusals
+            (input_of_reader R.remaining self.old) (input_of_reader R.remaining self.new)
+            (length buf.old)) }
+        ensures memory { IfErr result (λ e. why e ≢ OutOfMemory) }
+        ensures asks { AsksFor (length buf.old) self.old self.new }
+    {
         let mut filled = 0;
         'pieces: while filled < buf.len() {
             let count = self.take_piece(&mut buf[filled..])?;
@@ -247,18 +330,38 @@ impl<R: io::Read> Source for IoRead<R> {
     }
 
     // By way of the buffer.
-    fn skip(&mut self, n: usize) -> Result<()> {
+    fn skip(&mut self, n: usize) -> Result<()>
+        ensures ok { OnOk result (Skipped (input_of_reader R.remaining self.old)
+            (input_of_reader R.remaining self.new) n) }
+        ensures err { IfErr result (RefusedPart reader_refusals
+            (input_of_reader R.remaining self.old) (input_of_reader R.remaining self.new) n) }
+        ensures memory { IfErr result (MemoryWhere true) }
+        ensures asks { AsksFor n self.old self.new }
+    {
         self.buffer.clear();
         self.read_to_buffer(n)
     }
 
-    fn skip_text(&mut self, n: usize) -> Result<usize> {
+    fn skip_text(&mut self, n: usize) -> Result<usize>
+        ensures ok { IfOk result (SkippedText (input_of_reader R.remaining self.old)
+            (input_of_reader R.remaining self.new) n) }
+        ensures err { IfErr result (RefusedPart reader_refusals
+            (input_of_reader R.remaining self.old) (input_of_reader R.remaining self.new) n) }
+        ensures memory { IfErr result (MemoryWhere true) }
+        ensures asks { AsksFor n self.old self.new }
+    {
         self.buffer.clear();
         self.read_to_buffer(n)?;
         Ok(valid_in(&self.buffer))
     }
 
-    fn discard(&mut self) {
+    fn discard(&mut self)
+        requires { IsSome (peeked_at self.old.offset self.old.peeked) }
+        ensures took { IfSome (peeked_at self.old.offset self.old.peeked)
+            (λ b. TookKept (input_of_reader R.remaining self.old)
+            (input_of_reader R.remaining self.new) (b ∷ [])) }
+        ensures asks { AsksFor 0 self.old self.new }
+    {
         self.peeked = None;
         self.offset += 1;
     }
@@ -269,13 +372,37 @@ impl<R: io::Read> Source for IoRead<R> {
 }
 
 impl<'de, R: io::Read> Read<'de> for IoRead<R> {
-    fn read<'a>(&'a mut self, n: usize) -> Result<EitherLifetime<'a, 'de>> {
+    ghost use Rattle.std.specs.Prelude.{take, true, false};
+    ghost use Rattle.std.specs.Io.BufRead.{Rests};
+    ghost use Rattle.cbor_read.specs.Source.{KeepsBytes, MemoryWhere, ReadLeaves, is_long};
+    ghost use Rattle.cbor_read.specs.Source.{part_bytes, reader_refusals};
+    ghost use Rattle.cbor_read.specs.Sources.{input_of_reader};
+    ghost use Rattle.cbor_read.specs.contracts.io_read.IoRead.{the_row};
+    ghost use types.Logic.{sem};
+
+    fn read<'a>(&'a mut self, n: usize) -> Result<EitherLifetime<'a, 'de>>
+        ensures count { IfOk result (λ p. length (part_bytes p) ≡ n) }
+        ensures front { IfOk result (λ p. IfSome (input_of_reader R.remaining self.old).to_come
+            (λ bs. part_bytes p ≡ take n bs)) }
+        ensures long { IfOk result (λ p. is_long p ≡ false) }
+        ensures memory { IfErr result (MemoryWhere true) }
+        ensures* after_borrow { sem 𝓛 (Rests (the_row R.row) self.entry (λ new.
+            ReadLeaves reader_refusals (input_of_reader R.remaining self.old)
+            (input_of_reader R.remaining new) n result
+            × AsksFor n self.old new)) }
+    {
         self.clear_buffer();
         self.read_to_buffer(n)?;
         Ok(EitherLifetime::Short(&self.buffer))
     }
 
-    fn take_buffer<'a>(&'a mut self) -> EitherLifetime<'a, 'de> {
+    fn take_buffer<'a>(&'a mut self) -> EitherLifetime<'a, 'de>
+        ensures bytes { part_bytes result ≡ (input_of_reader R.remaining self.old).buffer }
+        ensures long { is_long result ≡ false }
+        ensures* after_borrow { sem 𝓛 (Rests (the_row R.row) self.entry (λ new.
+            KeepsBytes (input_of_reader R.remaining self.old) (input_of_reader R.remaining new)
+            × AsksFor 0 self.old new)) }
+    {
         EitherLifetime::Short(&self.buffer)
     }
 }

@@ -122,6 +122,7 @@ fn cut_part<'a>(bytes: &mut &'a mut [u8], start: usize, n: usize) -> &'a [u8]
     ensures bytes { result.now ≡ take n (drop start bytes.old.now) }
     ensures len { length result.now ≡ n }
     ensures whole { drop start bytes.old.now ≡ result.now ++ bytes.new.now }
+    ensures rest { bytes.new.now ≡ drop (start + n) bytes.old.now }
 {
     let _ = cut_front(bytes, start);
     cut_front(bytes, n)
@@ -308,7 +309,24 @@ impl<'a> Source for MutSliceRead<'a> {
 }
 
 impl<'a> Read<'a> for MutSliceRead<'a> {
-    fn read<'b>(&'b mut self, n: usize) -> Result<EitherLifetime<'b, 'a>> {
+    ghost use Rattle.std.specs.Prelude.{IfSome, true, false};
+    ghost use Rattle.std.specs.Io.BufRead.{Rests};
+    ghost use Rattle.cbor_read.specs.Source.{KeepsBytes, MemoryWhere, ReadLeaves, is_long};
+    ghost use Rattle.cbor_read.specs.Source.{mut_refusals, part_bytes};
+    ghost use Rattle.cbor_read.specs.Sources.{input_of_mut_slice};
+    ghost use Rattle.cbor_read.specs.Lending.{CutOff, mut_slice_row};
+    ghost use types.Logic.{sem};
+
+    fn read<'b>(&'b mut self, n: usize) -> Result<EitherLifetime<'b, 'a>>
+        ensures count { IfOk result (λ p. length (part_bytes p) ≡ n) }
+        ensures front { IfOk result (λ p. IfSome (input_of_mut_slice self.old).to_come
+            (λ bs. part_bytes p ≡ take n bs)) }
+        ensures long { IfOk result (λ p. is_long p ≡ true) }
+        ensures memory { IfErr result (MemoryWhere false) }
+        ensures* after_borrow { sem 𝓛 (Rests mut_slice_row self.entry (λ new.
+            ReadLeaves mut_refusals (input_of_mut_slice self.old) (input_of_mut_slice new) n result
+            × CutOff self.old new)) }
+    {
         let end = self.end_of(n)?;
         let start = self.taken;
         self.start = 0;
@@ -319,7 +337,13 @@ impl<'a> Read<'a> for MutSliceRead<'a> {
         Ok(EitherLifetime::Long(part))
     }
 
-    fn take_buffer<'b>(&'b mut self) -> EitherLifetime<'b, 'a> {
+    fn take_buffer<'b>(&'b mut self) -> EitherLifetime<'b, 'a>
+        ensures bytes { part_bytes result ≡ (input_of_mut_slice self.old).buffer }
+        ensures long { is_long result ≡ true }
+        ensures* after_borrow { sem 𝓛 (Rests mut_slice_row self.entry (λ new.
+            KeepsBytes (input_of_mut_slice self.old) (input_of_mut_slice new)
+            × CutOff self.old new)) }
+    {
         let start = self.start;
         let end = start + self.joined;
         let taken = self.taken;
