@@ -364,6 +364,13 @@ pub enum OneOf8<A, B, C, D, E, F, G, H> {
     Eighth(H),
 }
 
+/// What the variants of an enum of nine would have to be, and no type is: there are eight at most.
+pub trait AtMostEightVariants: Drop {}
+
+/// The variants of an enum of nine, which no description has: no type is `AtMostEightVariants`.
+#[derive(Drop)]
+pub struct OneOf9<A: AtMostEightVariants, B, C, D, E, F, G, H, I>(A, B, C, D, E, F, G, H, I);
+
 impl<A: Drop> AtMostTwelveParts for OneOf1<A> {
     ghost count = { 1 };
 }
@@ -397,4 +404,18 @@ impl<A: Drop, B: Drop, C: Drop, D: Drop, E: Drop, F: Drop, G: Drop> AtMostTwelve
 impl<A: Drop, B: Drop, C: Drop, D: Drop, E: Drop, F: Drop, G: Drop, H: Drop> AtMostTwelveParts
     for OneOf8<A, B, C, D, E, F, G, H> {
     ghost count = { 8 };
+}
+
+impl<
+    A: AtMostEightVariants,
+    B: Drop,
+    C: Drop,
+    D: Drop,
+    E: Drop,
+    F: Drop,
+    G: Drop,
+    H: Drop,
+    I: Drop,
+> AtMostTwelveParts for OneOf9<A, B, C, D, E, F, G, H, I> {
+    ghost count = { 9 };
 }
