@@ -22,6 +22,7 @@ ghost use Rattle.cbor_de.specs.Access as access;
 ghost use Rattle.cbor_de.specs.Calls as call;
 
 use crate::de::Deserializer;
+use crate::gather::gather_name;
 use cbor_decode::Remaining;
 use cbor_decode_as::collection::more_pairs;
 use cbor_decode_as::identifier::{Lookup, identifier, unnamed};
@@ -86,6 +87,7 @@ impl<'de, R: Read<'de>> Deserializer<R> {
         if let Some(n) = from_zero_at_hand(&mut self.decoder, u64::MAX) {
             return Ok(numbered(names, n));
         }
+        gather_name(&mut self.decoder);
         let place = identifier(&mut self.decoder, names)?;
         Ok(placed(place))
     }
@@ -109,6 +111,7 @@ impl<'de, R: Read<'de>> Deserializer<R> {
         if let Some(number) = signed_at_hand(&mut self.decoder, i64::MAX as u64) {
             return Ok(placed(place_of_label(labels, number as i128)));
         }
+        gather_name(&mut self.decoder);
         let place = label(&mut self.decoder, labels)?;
         Ok(placed(place))
     }

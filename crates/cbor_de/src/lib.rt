@@ -16,6 +16,7 @@ mod deserialize;
 mod field;
 mod field_type;
 mod from;
+mod gather;
 mod item_list;
 mod laws;
 mod map;
@@ -51,6 +52,7 @@ pub use laws::{
     variant_taken, variant_tuple_taken, variant_unit_taken,
 };
 pub use map::MapAccess;
+pub use ready::read_gathered;
 pub use sequence::SeqAccess;
 pub use stream::StreamDeserializer;
 pub use stream_laws::{

@@ -181,6 +181,16 @@ pub fn variant_at_hand<R: Source>(de: &mut Deserializer<R>, names: &[&str]) -> O
     cbor_decode_as::variant_at_hand::variant_at_hand(&mut de.decoder, names)
 }
 
+/// Has the source bring the beginning of an enum to hand, where it can, as far as
+/// [`variant_at_hand`] reads it. An enum has to be wanted. Nothing is taken.
+#[inline(always)]
+pub fn gather_variant<R: Source>(de: &mut Deserializer<R>)
+    ensures stays { Stays (R.source de.old.decoder.source) (R.source de.new.decoder.source) }
+    ensures settings { SameSettings de.old.decoder de.new.decoder }
+{
+    crate::gather::gather_variant(&mut de.decoder)
+}
+
 /// Takes the content of a variant of several parts up to the first of them.
 ///
 /// An identifier alone is refused with `invalid type: unit variant, expected tuple variant`, and in

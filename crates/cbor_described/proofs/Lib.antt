@@ -2,6 +2,7 @@ pub mod FieldLists
 pub mod Lacking
 pub mod OneOfs
 pub mod OneParts
+pub mod Gathered
 pub mod Makings
 pub mod FieldForms
 pub mod FieldFaults

@@ -4,7 +4,7 @@ ghost use Rattle.std.specs.Prelude.{◌≡◌, ◌≤◌, true, Some, Ok, IfOk, 
 ghost use Rattle.std.specs.Bool.{OnFalse};
 ghost use Rattle.std.specs.Option.{is_some};
 ghost use Rattle.cbor_decode.specs.Decoder.{SameSettings};
-ghost use Rattle.cbor_read.specs.Source.{asks_for};
+ghost use Rattle.cbor_read.specs.Source.{Stays, asks_for};
 ghost use Rattle.cbor_described.specs.FieldLists.{MemoryForSlot, TakesSlot};
 ghost use Rattle.cbor_de.specs.Structs.{duplicate_text};
 ghost use Rattle.cbor_io.specs.Error.{IsMessageOf, code_of};
@@ -44,6 +44,9 @@ where
     A::Of: Deserialize<'de, R>,
 {
     fn take_slot(de: &mut Deserializer<R>, name: &str, slot: &mut Option<A>) -> Result<()> {
+        if slot_gathered::<R, A>(de, slot) {
+            return Ok(());
+        }
         fill_slot::<R, A>(de, name, slot)
     }
 }
@@ -67,6 +70,31 @@ pub(crate) fn slot_at_hand<R: Source, A: FieldType>(
     match slot {
         Some(_) => false,
         None => match <A::Of as Readable>::at_hand(de) {
+            Some(value) => {
+                *slot = Some(A::given(value));
+                true
+            }
+            None => false,
+        },
+    }
+}
+
+// Reads it so where the source can bring it to hand.
+#[tactic(auto, using(cbor_read::proofs::facts::Sources::stays_same))]
+fn slot_gathered<R: Source, A: FieldType>(de: &mut Deserializer<R>, slot: &mut Option<A>) -> bool
+    ensures read { MatchBool result
+        (TakesSlot (formats_of de.old.decoder.formats) de.old.decoder.levels R.refusals
+        (A.reads (context de.old.decoder.formats R.lends)) slot.old slot.new
+        (R.source de.old.decoder.source) (R.source de.new.decoder.source) (Ok tt))
+        (Stays (R.source de.old.decoder.source) (R.source de.new.decoder.source)) }
+    ensures held { OnFalse result (slot.new ≡ slot.old) }
+    ensures forward { (R.source de.old.decoder.source).offset
+        ≤ (R.source de.new.decoder.source).offset }
+    ensures settings { SameSettings de.old.decoder de.new.decoder }
+{
+    match slot {
+        Some(_) => false,
+        None => match <A::Of as Readable>::gathered(de) {
             Some(value) => {
                 *slot = Some(A::given(value));
                 true

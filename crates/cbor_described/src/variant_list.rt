@@ -15,7 +15,7 @@ ghost use Rattle.cbor_described.specs.Contents.{OwnContentFault};
 ghost use Rattle.cbor_described.specs.EnumMemory.{AsksForEnum, MemoryForContent};
 
 use crate::parts::{ReadParts, ReadableParts};
-use cbor_de::steps::{leave_to, no_part, parts, variant_at_hand, variant_head};
+use cbor_de::steps::{gather_variant, leave_to, no_part, parts, variant_at_hand, variant_head};
 use cbor_de::{
     Deserialize, Deserializer, Form, Read, ReadTuple, Readable, ReadableTuple, Source, one_part,
 };
@@ -417,9 +417,33 @@ pub(crate) fn read_variants<'de, R: Read<'de>, E: ReadVariants<'de, R>>(
     ensures settings { SameSettings de.old.decoder de.new.decoder }
 {
     let outer = de.levels_left();
-    let read = variants_within::<R, E>(de, names);
+    let read = variants_gathered::<R, E>(de, names);
     leave_to(de, outer);
     read
+}
+
+// Reads the variant, once its source was asked to bring its beginning to hand, and leaves any number
+// of levels.
+#[inline(always)]
+fn variants_gathered<'de, R: Read<'de>, E: ReadVariants<'de, R>>(
+    de: &mut Deserializer<R>,
+    names: &[&str],
+) -> Result<E>
+    ensures read { call.TakesItem R.source R.refusals
+        (PassesTags (IsEnum (formats_of de.old.decoder.formats) (texts names.now)
+        (E.means (context de.old.decoder.formats R.lends)))) de.old de.new result }
+    ensures taken { OnOk result (call.Advances R.source de.old de.new) }
+    ensures form { IfErr result (call.MayReport R.source (any_of enum_form E.wrong_forms) de.old) }
+    ensures fault { IfErr result (call.OwnFault R.source R.refusals E.reports_faults de.old) }
+    ensures memory { IfErr result (call.MemoryFor R.source
+        (AsksForEnum (texts names.now) (asks_for R.refusals R.lends)
+        (E.asks_memory (asks_for R.refusals R.lends)))
+        (PassesTags (IsEnum (formats_of de.old.decoder.formats) (texts names.now)
+        (E.means (context de.old.decoder.formats R.lends)))) de.old) }
+    ensures formats { de.new.decoder.formats ≡ de.old.decoder.formats }
+{
+    gather_variant(de);
+    variants_within::<R, E>(de, names)
 }
 
 // Reads the variant, and leaves any number of levels.

@@ -5,7 +5,7 @@
 pub use Rattle.cbor_de.proofs.refusals.OwnFaults.{IsTold, if_any_map, if_any_then, if_told_map, if_told_then}
 pub use Rattle.cbor_de.proofs.refusals.OwnFaults.{memory_if_any, message_if_any, reported_if_any, said_if_any}
 -- and of the item at the front: by what is said of its type, before a source brought bytes to hand, and of a head
-pub use Rattle.cbor_de.proofs.refusals.OwnFaults.{beginning_fault, err_gathered, item_fault, item_gathered}
+pub use Rattle.cbor_de.proofs.refusals.OwnFaults.{beginning_fault, err_gathered, item_fault, item_gathered, own_err_gathered}
 -- of one of two types
 pub use Rattle.cbor_de.proofs.refusals.OwnFaults.{first_reports, other_reports}
 -- an array: its head, another item, and the fault of what remains

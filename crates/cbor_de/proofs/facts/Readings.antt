@@ -8,3 +8,5 @@ pub use Rattle.cbor_decode.proofs.facts.Readings.{along, value_seen}
 pub use Rattle.cbor_de.proofs.structs.FieldNames.{no_item}
 -- what is read behind a call that took nothing
 pub use Rattle.cbor_de.proofs.parts.AtHand.{read_here}
+-- what is known after a source brought bytes to hand, of the input before
+pub use Rattle.cbor_de.proofs.taken.Gathered.{memory_err_gathered, ok_gathered}

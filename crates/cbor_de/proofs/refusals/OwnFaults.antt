@@ -155,6 +155,10 @@ module _ (s m : Input) (stays : Stays s m) (allowed : ReadErrorCode → Bool) (l
   err_gathered f passes_over total reports_faults (Err e) h own =
       where_map (reports_any passes_over total reports_faults) (item_gathered e) (item_fault allowed m e left f passes_over total reports_faults h own)
 
+  pub own_err_gathered : {A : Type 0} (reports_faults : Bool) (r : Result A Error) → IfErr r (λ e. WhereTotal reports_faults (ItemFault allowed left m e)) → IfErr r (λ e. WhereTotal reports_faults (ItemFault allowed levels s e))
+  own_err_gathered reports_faults (Ok x) h = tt
+  own_err_gathered reports_faults (Err e) h = where_map reports_faults (item_gathered e) h
+
 -- ---- where null's first byte was looked for
 
 -- nothing was taken
