@@ -85,11 +85,13 @@ DEVICES = {
     'read, and written by a BufWriter': 4,
     'read, and written in blocks': 6,
 }
+# Those that docs/SPEED.md has.
+SAID = {name: task for name, task in DEVICES.items() if task in (2, 3, 4)}
 RULES = {'read': 0, 'strictly': 7, 'by the canonical rules': 8, 'by unique keys': 9}
 RULED = ('u32, five bytes', 'String, 8 bytes', '(u32, bool, String)', 'struct of two u32, by numbers')
 # The Rust crate's way that is the nearest, where it has not the same.
 NEAREST = {5: 2, 6: 4}
-DEVICE_KINDS = 'biuSft'
+DEVICE_KINDS = 'boiucSftpe'
 GO_KINDS = 'boiusSftpP'
 
 

@@ -1,6 +1,7 @@
 #!/usr/bin/env python3
 """Draws the tables of instructions in docs/SPEED.md as docs/speed.svg; see README.md."""
 import argparse
+import itertools
 import math
 import os
 import sys
@@ -10,33 +11,41 @@ HERE = os.path.dirname(os.path.abspath(__file__))
 TABLES = os.path.join(HERE, '..', 'docs', 'SPEED.md')
 PICTURE = os.path.join(HERE, '..', 'docs', 'speed.svg')
 
-# The headings of the tables, and the columns in which the Rust crate's ratio stands: of reading, and
-# of reading and writing.
-DRAWN = [('| shape | read | Rust crate | libcbor | read and written |', 2, 5), ('| list | read |', 2, 4)]
+# The headings of the tables, what is put behind the names of their rows, and the columns in which the
+# Rust crate's ratio stands, by the kind of bar that shows it.
+DRAWN = [
+    ('| shape | read | Rust crate | libcbor | read and written |', '', {'read': 2, 'both': 5}),
+    ('| list | read |', '', {'read': 2, 'both': 4}),
+    ('| list | by a `BufReader` |', ', by readers', {'read': 2, 'sevens': 4, 'both': 6}),
+]
+KINDS = {'read': 'to read', 'sevens': 'seven bytes a call', 'both': 'to read and write'}
 
 LEAST, MOST = 0.5, 16
-ROW, LABEL, SCALE, WIDTH = 24, 250, 110, 860
+BAR, LABEL, SCALE, WIDTH = 10, 250, 110, 860
 TOP = 64
 
 STYLE = '''
 svg { background: #fff; font: 13px system-ui, sans-serif; fill: #1f2328 }
-.read { fill: #0969da } .both { fill: #9a6700 } line { stroke: #d0d7de } .one { stroke: #1f2328 }
+.read { fill: #0969da } .sevens { fill: #8250df } .both { fill: #9a6700 } line { stroke: #d0d7de } .one { stroke: #1f2328 }
 @media (prefers-color-scheme: dark) {
   svg { background: #0d1117; fill: #e6edf3 }
-  .read { fill: #58a6ff } .both { fill: #d29922 } line { stroke: #30363d } .one { stroke: #e6edf3 }
+  .read { fill: #58a6ff } .sevens { fill: #bc8cff } .both { fill: #d29922 } line { stroke: #30363d } .one { stroke: #e6edf3 }
 }
 '''
 
 
+def table(lines, heading):
+    """The cells of each row of the table with this heading."""
+    begin = next(i for i, line in enumerate(lines) if line.startswith(heading))
+    for line in itertools.takewhile(lambda line: line.startswith('|'), lines[begin + 2:]):
+        yield [cell.strip().replace('`', '') for cell in line.strip('|').split('|')]
+
+
 def rows(lines):
-    """The name of each shape, and its two ratios, table by table."""
-    for heading, read, both in DRAWN:
-        begin = next(i for i, line in enumerate(lines) if line.startswith(heading))
-        for line in lines[begin + 2:]:
-            if not line.startswith('|'):
-                break
-            cells = [cell.strip().replace('`', '') for cell in line.strip('|').split('|')]
-            yield cells[0], float(cells[read]), float(cells[both])
+    """The name of each shape, and its ratios, table by table."""
+    for heading, behind, columns in DRAWN:
+        for cells in table(lines, heading):
+            yield cells[0] + behind, {kind: float(cells[at]) for kind, at in columns.items()}
 
 
 def across(ratio):
@@ -49,23 +58,32 @@ def bar(kind, ratio, top):
             f'<text x="{max(end, across(1)) + 4:.1f}" y="{top + 8}" font-size="9">{ratio:.2f}</text>')
 
 
+def legend():
+    x = 12
+    for kind, name in KINDS.items():
+        yield f'<rect class="{kind}" x="{x}" y="32" width="8" height="8"/><text x="{x + 14}" y="40">{name}</text>'
+        x += 40 + 7 * len(name)
+
+
 def picture(shapes):
-    height = TOP + ROW * len(shapes) + 8
+    height = TOP + sum(BAR * len(ratios) + 4 for _, ratios in shapes) + 8
     parts = [f'<svg xmlns="http://www.w3.org/2000/svg" viewBox="0 0 {WIDTH} {height}" role="img">',
              f'<style>{STYLE}</style>',
              '<title>How many times as many instructions the Rust crate takes</title>',
-             f'<text x="12" y="20">How many times as many instructions the Rust crate takes</text>',
-             f'<rect class="read" x="12" y="32" width="8" height="8"/><text x="26" y="40">to read</text>',
-             f'<rect class="both" x="90" y="32" width="8" height="8"/><text x="104" y="40">to read and write</text>']
+             '<text x="12" y="20">How many times as many instructions the Rust crate takes</text>',
+             *legend()]
     for power in range(int(math.log2(LEAST)), int(math.log2(MOST)) + 1):
         x = across(2 ** power)
         kind = ' class="one"' if power == 0 else ''
         parts.append(f'<line{kind} x1="{x:.1f}" y1="{TOP - 8}" x2="{x:.1f}" y2="{height - 8}"/>'
                      f'<text x="{x:.1f}" y="{TOP - 12}" text-anchor="middle" font-size="10">{2 ** power:g}</text>')
-    for number, (name, read, both) in enumerate(shapes):
-        top = TOP + ROW * number
+    top = TOP
+    for name, ratios in shapes:
         parts.append(f'<text x="{LABEL + SCALE - 118}" y="{top + 13}" text-anchor="end">{escape(name)}</text>')
-        parts += [bar('read', read, top), bar('both', both, top + 10)]
+        for kind, ratio in ratios.items():
+            parts.append(bar(kind, ratio, top))
+            top += BAR
+        top += 4
     return '\n'.join(parts + ['</svg>']) + '\n'
 
 

@@ -35,19 +35,16 @@ LISTS = {
 }
 
 
+# What is done with the lists of the second table, and with those of the third.
+TASKS = [lists.SLICES, lists.SAID]
+
+
 def said():
-    """The page's two tables, each as its rows' names and what they say of reading, and of both."""
+    """The page's tables, each as its rows' names and what they say of this library."""
     with open(picture.TABLES, encoding='utf-8') as page:
         lines = page.read().split('\n')
-    for heading, read, both in picture.DRAWN:
-        begin = lines.index(next(line for line in lines if line.startswith(heading)))
-        rows = []
-        for line in lines[begin + 2:]:
-            if not line.startswith('|'):
-                break
-            cells = [cell.strip().replace('`', '') for cell in line.strip('|').split('|')]
-            rows.append((cells[0], float(cells[read - 1]), float(cells[both - 1])))
-        yield rows
+    for heading, _, columns in picture.DRAWN:
+        yield [(cells[0], [float(cells[at - 1]) for at in columns.values()]) for cells in picture.table(lines, heading)]
 
 
 def shape_counted(shape):
@@ -58,20 +55,21 @@ def shape_counted(shape):
     return [counts[i:i + 2] for i in range(0, len(counts), 2)]
 
 
-def list_counted(name):
+def list_counted(name, tasks):
     """What an item of a list takes."""
     kind, make = lists.LISTS[LISTS[name]]
     item = lists.array(make() for _ in range(lists.COUNT))
-    return [lists.each(lists.OURS, task, kind, item) for task in lists.SLICES.values()]
+    return [lists.each(lists.OURS, task, kind, item) for task in tasks.values()]
 
 
 def counted(shape_rows, list_rows):
-    """What these give for the rows of the first table, and for those of the second."""
-    first, second = said()
+    """The rows of the page's tables, and what these give for each."""
+    first, *of_lists = said()
     with concurrent.futures.ThreadPoolExecutor(os.cpu_count()) as pool:
-        of_lists = pool.map(list_rows, [name for name, *_ in second])
         of_shapes = pool.map(shape_rows, shapes.SHAPES)
-        return [*first, *second], [*itertools.chain.from_iterable(of_shapes), *of_lists]
+        cells = [pool.submit(list_rows, name, tasks) for rows, tasks in zip(of_lists, TASKS) for name, _ in rows]
+        named = itertools.chain(first, *of_lists)
+        return [*named], [*itertools.chain.from_iterable(of_shapes), *(row.result() for row in cells)]
 
 
 def shape_cells(shape):
@@ -82,11 +80,11 @@ def shape_cells(shape):
     return [row.split('|')[2:-1] for row in rows]
 
 
-def list_cells(name):
+def list_cells(name, tasks):
     kind, make = lists.LISTS[LISTS[name]]
     item = lists.array(make() for _ in range(lists.COUNT))
     cells = []
-    for task in lists.SLICES.values():
+    for task in tasks.values():
         ours, theirs = (lists.each(program, task, kind, item) for program in (lists.OURS, lists.CRATE))
         cells += [f' {ours:.1f} ', f' {theirs / ours:.2f} ']
     return cells
@@ -112,11 +110,11 @@ def compare():
     named, counts = counted(shape_counted, list_counted)
     others = [
         f'said: {name}: {said:.2f} on the page, {count:.2f} counted'
-        for (name, *says), counts in zip(named, counts, strict=True)
+        for (name, says), counts in zip(named, counts, strict=True)
         for said, count in zip(says, counts)
         if abs(count - said) > NEAR * said + 0.05
     ]
-    print('\n'.join(others) or f'said: {2 * len(counts)} counts, as docs/SPEED.md says')
+    print('\n'.join(others) or f'said: {sum(map(len, counts))} counts, as docs/SPEED.md says')
     return 1 if others else 0
 
 

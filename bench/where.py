@@ -3,6 +3,7 @@
 
     bench/where.py WORD                      of the first list, or else shape, with this word in its name
     bench/where.py WORD --write              with writing
+    bench/where.py WORD --sevens             by a reader that gives seven bytes a call
     bench/where.py WORD --function NAME      each instruction of the functions with NAME in their names
 """
 import argparse
@@ -20,14 +21,14 @@ MOST = 25
 COST = re.compile(r'(0x[0-9a-f]+) .*?(\d+)$')
 
 
-def input_of(word, write):
+def input_of(word, task):
     """The program, what it is given for one turn and for two, and how many items that is."""
     for name, (kind, make) in lists.LISTS.items():
         if word in name:
             item = kind.encode() + lists.array(make() for _ in range(lists.COUNT))
-            return name, lists.OURS, speed.Request(int(write), item), lists.COUNT
+            return name, lists.OURS, speed.Request(task, item), lists.COUNT
     name = next(it for it in shapes.SHAPES | shapes.WORDS if word in it)
-    return name, speed.OURS, speed.Request(int(write), (shapes.SHAPES | shapes.WORDS)[name]()), 1
+    return name, speed.OURS, speed.Request(task, (shapes.SHAPES | shapes.WORDS)[name]()), 1
 
 
 def counted(program, times, request):
@@ -66,11 +67,12 @@ def shown(program, function, costs):
 def main():
     parser = argparse.ArgumentParser(description=__doc__, formatter_class=argparse.RawDescriptionHelpFormatter)
     parser.add_argument('word')
-    parser.add_argument('--write', action='store_true')
+    parser.add_argument('--write', action='store_const', const=1, dest='task', default=0)
+    parser.add_argument('--sevens', action='store_const', const=3, dest='task')
     parser.add_argument('--function')
     parser.add_argument('--program', help='another build')
     chosen = parser.parse_args()
-    name, program, request, items = input_of(chosen.word, chosen.write)
+    name, program, request, items = input_of(chosen.word, chosen.task)
     program = os.path.realpath(chosen.program or program)
     once, twice = (counted(program, times, request) for times in (1, 2))
     turn = {key: (cost - once[key]) / items for key, cost in twice.items() if cost != once[key]}

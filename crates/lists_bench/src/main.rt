@@ -114,11 +114,15 @@ fn packed_turns<'a, T: Deserialize<'a, SliceRead<'a>> + Serialize>(
 fn of_reader(alloc: Global, task: u8, times: u8, kind: u8, item: &[u8]) -> Result<Option<usize>> {
     match kind {
         b'b' => reader_turns::<bool>(alloc, task, times, item),
+        b'o' => reader_turns::<Option<u8>>(alloc, task, times, item),
         b'i' => reader_turns::<i64>(alloc, task, times, item),
         b'u' => reader_turns::<u32>(alloc, task, times, item),
+        b'c' => reader_turns::<char>(alloc, task, times, item),
         b'S' => reader_turns::<String>(alloc, task, times, item),
         b'f' => reader_turns::<f64>(alloc, task, times, item),
         b't' => reader_turns::<(u32, bool, String)>(alloc, task, times, item),
+        b'p' | b'P' => reader_turns::<SmallStruct>(alloc, task, times, item),
+        b'e' | b'E' => reader_turns::<Color>(alloc, task, times, item),
         _ => Ok(None),
     }
 }
@@ -144,11 +148,15 @@ where
 fn of_block(alloc: Global, task: u8, times: u8, kind: u8, item: &[u8]) -> Result<Option<usize>> {
     match kind {
         b'b' => block_turns::<bool>(alloc, task, times, item),
+        b'o' => block_turns::<Option<u8>>(alloc, task, times, item),
         b'i' => block_turns::<i64>(alloc, task, times, item),
         b'u' => block_turns::<u32>(alloc, task, times, item),
+        b'c' => block_turns::<char>(alloc, task, times, item),
         b'S' => block_turns::<String>(alloc, task, times, item),
         b'f' => block_turns::<f64>(alloc, task, times, item),
         b't' => block_turns::<(u32, bool, String)>(alloc, task, times, item),
+        b'p' => block_turns::<SmallStruct>(alloc, task, times, item),
+        b'e' => block_turns::<Color>(alloc, task, times, item),
         _ => Ok(None),
     }
 }

@@ -94,11 +94,15 @@ fn main() -> std::result::Result<ExitCode, Box<dyn Error>> {
         (0..=1, b'e') => turns::<Color>(writes, times, item)?,
         (0..=1, b'E') => packed_turns::<Color>(writes, times, item)?,
         (2..=4, b'b') => device_turns::<bool>(*task, times, item)?,
+        (2..=4, b'o') => device_turns::<Option<u8>>(*task, times, item)?,
         (2..=4, b'i') => device_turns::<i64>(*task, times, item)?,
         (2..=4, b'u') => device_turns::<u32>(*task, times, item)?,
+        (2..=4, b'c') => device_turns::<char>(*task, times, item)?,
         (2..=4, b'S') => device_turns::<String>(*task, times, item)?,
         (2..=4, b'f') => device_turns::<f64>(*task, times, item)?,
         (2..=4, b't') => device_turns::<(u32, bool, String)>(*task, times, item)?,
+        (2..=4, b'p') | (2..=3, b'P') => device_turns::<SmallStruct>(*task, times, item)?,
+        (2..=4, b'e') | (2..=3, b'E') => device_turns::<Color>(*task, times, item)?,
         _ => return Ok(ExitCode::from(2)),
     }
     Ok(ExitCode::SUCCESS)
