@@ -14,8 +14,10 @@ mod one_of;
 mod one_of_to_eight;
 mod parts;
 mod tuple_fields;
+mod variant;
 mod variant_list;
 
 pub use cbor_de::{ReadTuple, ReadableTuple};
 pub use parts::{ReadBy, ReadParts, ReadableParts, read_described};
-pub use variant_list::{Never, OneOf, ReadVariant, Variant};
+pub use variant::{ReadVariant, Variant};
+pub use variant_list::{Never, OneOf};

@@ -4,7 +4,8 @@ ghost use Rattle.std.specs.Prelude.{◌≡◌};
 ghost use Rattle.cbor_described.specs.OneOfs.{list1, list2, list3, list4, list5};
 
 use crate::parts::{ReadParts, ReadableParts};
-use crate::variant_list::{Never, OneOf, ReadVariant, Variant, read_variants};
+use crate::variant::{ReadVariant, Variant};
+use crate::variant_list::{Never, OneOf, read_variants};
 use cbor_de::{Deserializer, Read};
 use cbor_io::error::Result;
 use cbor_parts::{FieldKeys, OneOf1, OneOf2, OneOf3, OneOf4, OneOf5};

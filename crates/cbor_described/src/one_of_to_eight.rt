@@ -4,7 +4,8 @@ ghost use Rattle.std.specs.Prelude.{◌≡◌};
 ghost use Rattle.cbor_described.specs.OneOfs.{list6, list7, list8};
 
 use crate::parts::{ReadParts, ReadableParts};
-use crate::variant_list::{Never, OneOf, ReadVariant, Variant, read_variants};
+use crate::variant::{ReadVariant, Variant};
+use crate::variant_list::{Never, OneOf, read_variants};
 use cbor_de::{Deserializer, Read};
 use cbor_io::error::Result;
 use cbor_parts::{FieldKeys, OneOf6, OneOf7, OneOf8};

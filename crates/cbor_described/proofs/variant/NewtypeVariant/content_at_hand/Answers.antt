@@ -4,7 +4,7 @@ use Rattle.cbor_decode_as.specs.declared.variant.Form.TheVariants.{Map}
 use Rattle.cbor_decode_as.proofs.facts.Enums.{one_answer}
 use Rattle.std.proofs.Common.{Ok}
 use Rattle.cbor_described.proofs.OneOfs.{content_made}
-use Rattle.cbor_described.proofs.variant_list.NewtypeVariant.content_at_hand.Goals as goal
+use Rattle.cbor_described.proofs.variant.NewtypeVariant.content_at_hand.Goals as goal
 
 pub returns-in-Some-clause-read : goal.returns-in-Some-clause-read
 returns-in-Some-clause-read g c =

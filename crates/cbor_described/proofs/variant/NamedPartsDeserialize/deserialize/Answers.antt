@@ -1,11 +1,11 @@
 use Rattle.std.proofs.Common.{ℕ, List, refl}
 use Rattle.cbor_parts.specs.Keys.{named_keys}
 use Rattle.cbor_decode_as.specs.Takes.{context, formats_of}
-use Rattle.cbor_described.specs.declared.variant_list.NamedParts.{NamedParts}
+use Rattle.cbor_described.specs.declared.variant.NamedParts.{NamedParts}
 use Rattle.cbor_described.proofs.Makings.{made, not_made}
 use Rattle.cbor_read.specs.Source.{asks_for}
 use Rattle.cbor_described.proofs.Makings.{memory_named}
-use Rattle.cbor_described.proofs.variant_list.NamedPartsDeserialize.deserialize.Goals as goal
+use Rattle.cbor_described.proofs.variant.NamedPartsDeserialize.deserialize.Goals as goal
 
 pub returns-in-Ok-clause-read : goal.returns-in-Ok-clause-read
 returns-in-Ok-clause-read g c =

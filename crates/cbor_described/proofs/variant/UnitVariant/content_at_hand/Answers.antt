@@ -1,6 +1,6 @@
 use Rattle.cbor_decode_as.specs.Takes.{formats_of}
 use Rattle.cbor_described.proofs.OneOfs.{nothing_alone}
-use Rattle.cbor_described.proofs.variant_list.UnitVariant.content_at_hand.Goals as goal
+use Rattle.cbor_described.proofs.variant.UnitVariant.content_at_hand.Goals as goal
 
 pub returns-in-Alone-clause-read : goal.returns-in-Alone-clause-read
 returns-in-Alone-clause-read g c =

@@ -6,7 +6,7 @@ use Rattle.cbor_de.proofs.facts.Enums.{part_any}
 use Rattle.cbor_read.specs.Source.{asks_for}
 use Rattle.cbor_described.specs.EnumMemory.{AsksForPart}
 use Rattle.cbor_described.proofs.VariantMemory.{content_as, part_memory}
-use Rattle.cbor_described.proofs.variant_list.NewtypeReadVariant.read_content.Goals as goal
+use Rattle.cbor_described.proofs.variant.NewtypeReadVariant.read_content.Goals as goal
 
 pub returns-in-Err-clause-read : goal.returns-in-Err-clause-read
 returns-in-Err-clause-read g c =

@@ -3,7 +3,7 @@ use Rattle.cbor_model.specs.Raw.{Raw}
 use Rattle.cbor_parts.specs.Keys.{named_keys}
 use Rattle.cbor_decode_as.specs.Enums.{IsPart}
 use Rattle.cbor_decode_as.specs.Takes.{context, formats_of}
-use Rattle.cbor_described.specs.declared.variant_list.NamedParts.{NamedParts}
+use Rattle.cbor_described.specs.declared.variant.NamedParts.{NamedParts}
 use Rattle.cbor_de.proofs.facts.Forms.{part_content}
 use Rattle.cbor_described.proofs.OneOfs.{content_made, content_not_made}
 use Rattle.cbor_described.proofs.OneParts.{is_part, part_is}
@@ -12,7 +12,7 @@ use Rattle.cbor_de.proofs.facts.Enums.{part_any}
 use Rattle.cbor_read.specs.Source.{asks_for}
 use Rattle.cbor_described.specs.EnumMemory.{AsksForPart}
 use Rattle.cbor_described.proofs.VariantMemory.{content_as, part_memory}
-use Rattle.cbor_described.proofs.variant_list.StructReadVariant.read_content.Goals as goal
+use Rattle.cbor_described.proofs.variant.StructReadVariant.read_content.Goals as goal
 
 pub returns-in-Ok-clause-read : goal.returns-in-Ok-clause-read
 returns-in-Ok-clause-read g c =

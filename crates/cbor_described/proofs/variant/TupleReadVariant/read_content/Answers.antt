@@ -11,7 +11,7 @@ use Rattle.cbor_decode_as.proofs.facts.Refusals.{always}
 use Rattle.cbor_decode_as.proofs.facts.Enums.{parts_content}
 use Rattle.cbor_described.proofs.VariantFaults.{parts_told, where_then}
 use Rattle.cbor_described.proofs.VariantMemory.{parts_memory}
-use Rattle.cbor_described.proofs.variant_list.TupleReadVariant.read_content.Goals as goal
+use Rattle.cbor_described.proofs.variant.TupleReadVariant.read_content.Goals as goal
 
 pub returns-in_err-remaining-clause-read : goal.returns-in_err-remaining-clause-read
 returns-in_err-remaining-clause-read g c =
