@@ -1,5 +1,5 @@
 -- What is read of a value's canonical spelling.
-use Rattle.std.proofs.Common.{◌≡◌, ◌⊎◌, inl, ℕ, Bool, true, false, List, [], refl, sym, ◌∙◌, subst, append-nil, arith}
+use Rattle.std.proofs.Common.{◌≡◌, ℕ, false, List, [], sym, ◌∙◌, subst, append-nil, arith}
 use Rattle.std.specs.Prelude.{Result, Ok, Err, IfOk, IfErr, OnOk}
 use Rattle.std.specs.Result.{IsErrAnd}
 use Rattle.cbor_model.specs.Raw.{Raw, IsWellFormed, depth}
@@ -15,36 +15,24 @@ use Rattle.cbor_model.proofs.facts.Reader.{all_allowed}
 use Rattle.cbor_io.specs.declared.error.Error.{Error}
 use Rattle.cbor_io.specs.declared.error.ErrorCode.{ErrorCode}
 use Rattle.cbor_io.specs.declared.error.ErrorCode.TheVariants.{Message, OutOfMemory}
-use Rattle.cbor_ser.specs.Written.{IsNotWritten, IsRefusedBy, IsUnstorableCode, SaysUnstorable}
+use Rattle.cbor_ser.specs.Written.{IsNotWritten, IsRefusedBy}
+use Rattle.cbor_convert.proofs.ReadWritten.{memory_code}
 use Rattle.cbor_io.specs.Error.{IsOutOfMemory}
-use Rattle.cbor_decode_as.specs.Takes.{WhereTotal}
 
 -- ---- a storable value is refused for lack of memory alone
-
-memory_code : (code : ErrorCode) (S : Type 0) → S → IsRefusedBy code S → code ≡ OutOfMemory
-memory_code (Message text) S s h = absurd (h.1 s)
-memory_code OutOfMemory S s h = refl
-memory_code _ S s h = absurd h
 
 pub not_refused : {T : Type 0} (r : Result T Error) (v : Val) (e : Error) → IsNotWritten (IsStorableDocument (document_of v)) e → IsErrAnd r (λ x. x ≡ e) → IsStorable v → IfErr r IsOutOfMemory
 not_refused (Ok x) v e h is stored = tt
 not_refused (Err x) v e h is stored = subst IsOutOfMemory (sym is) (memory_code e.code (IsStorableDocument (document_of v)) (storable_document v stored) h.0, h.1)
 
-pub first_by_memory : {A : Type 0} (total : Bool) (r : Result A Error) (P : Error → Type 0) → IfErr r IsOutOfMemory → IfErr r (λ e. WhereTotal total (IsOutOfMemory e ⊎ P e))
-first_by_memory total (Ok x) P h = tt
-first_by_memory false (Err e) P h = tt
-first_by_memory true (Err e) P h = inl h
-
--- ---- one that isn't storable is reported so
-
-unstorable_code : (code : ErrorCode) (S : Type 0) → IsRefusedBy code S → IsUnstorableCode code
-unstorable_code (Message text) S h = h.0
-unstorable_code OutOfMemory S h = tt
-unstorable_code _ S h = absurd h
-
-pub reported_unstorable : {T : Type 0} (r : Result T Error) (v : Val) (e : Error) → IsNotWritten (IsStorableDocument (document_of v)) e → IsErrAnd r (λ x. x ≡ e) → IfErr r SaysUnstorable
-reported_unstorable (Ok x) v e h is = tt
-reported_unstorable (Err x) v e h is = subst SaysUnstorable (sym is) (unstorable_code e.code (IsStorableDocument (document_of v)) h.0, h.1)
+-- what isn't written can't be stored, or memory ran out
+pub refused_value : (v : Val) (e : Error) → IsNotWritten (IsStorableDocument (document_of v)) e → IsNotWritten (IsStorable v) e
+refused_value v e h = (by e.code h.0, h.1)
+  where
+    by : (code : ErrorCode) → IsRefusedBy code (IsStorableDocument (document_of v)) → IsRefusedBy code (IsStorable v)
+    by (Message text) h = (h.0, λ stored. h.1 (storable_document v stored))
+    by OutOfMemory h = tt
+    by _ h = absurd h
 
 -- ---- the item that is read
 

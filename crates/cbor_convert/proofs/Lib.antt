@@ -8,3 +8,4 @@ pub mod NoTags
 pub mod Tags
 pub mod PeekedTags
 pub mod TagFaults
+pub mod ReadWritten

@@ -2,3 +2,4 @@ pub mod Meaning
 pub mod Builders
 pub mod Tagged
 pub mod Encoded
+pub mod ReadWritten

@@ -1,20 +1,12 @@
 //! An encoded item, kept as its bytes within a byte string.
 
-ghost use Rattle.std.specs.Prelude.{◌≡◌, ◌⊎◌, IfErr, IfOk, MatchResult, OnOk, None, false};
-ghost use Rattle.cbor_model.specs.Allowed.{limits_of};
+ghost use Rattle.std.specs.Prelude.{◌≡◌, IfErr, IfOk, OnOk, None, false};
 ghost use Rattle.cbor_model.specs.Document.{document_bytes, IsStorableDocument};
 ghost use Rattle.cbor_model.specs.Formats.{all_formats};
-ghost use Rattle.cbor_model.specs.Laws.{SpellsValue};
-ghost use Rattle.cbor_model.specs.Plain.{Val};
-ghost use Rattle.cbor_model.specs.Readable.{SpellsAs};
 ghost use Rattle.cbor_io.specs.Error.{IsOutOfMemory};
 ghost use Rattle.cbor_read.specs.Source.{start_of_slice};
-ghost use Rattle.cbor_decode.specs.FirstRefusal.{ReportsFirst};
-ghost use Rattle.cbor_decode_as.specs.Takes.{WhereTotal};
-ghost use Rattle.cbor_de.specs.Calls.{reports_any};
 ghost use Rattle.cbor_de.specs.Forms.{MayReport};
-ghost use Rattle.cbor_de.specs.Whole.{RefusesUnread, ReportsOwn};
-ghost use Rattle.cbor_de.specs.Whole.{from_slice_asks, from_slice_context};
+ghost use Rattle.cbor_de.specs.Whole.{Answers, from_slice_asks, from_slice_context};
 ghost use Rattle.cbor_ser.specs.Written.{IsNotWritten};
 ghost use Rattle.cbor_convert.specs.Encoded.{encoding};
 
@@ -86,23 +78,9 @@ impl<T> Encoded<T> {
     pub fn decode<'a>(&'a self, alloc: Global) -> Result<T>
     where
         T: Deserialize<'a, SliceRead<'a>>,
-        ensures found { IfOk result
-            (SpellsAs all_formats (T.reads from_slice_context) (encoding self.now)) }
-        ensures accepted { (x : T)
-            → SpellsAs all_formats (T.reads from_slice_context) (encoding self.now) x
-            → IfErr result IsOutOfMemory }
-        ensures memory { (x : T)
-            → (spelt : SpellsAs all_formats (T.reads from_slice_context) (encoding self.now) x)
-            → IfErr result (λ e. T.asks_memory from_slice_asks spelt.item) }
-        ensures every { (v : Val) → (spelt : SpellsValue (encoding self.now) v)
-            → MatchResult result (T.reads from_slice_context spelt.item)
-            (λ e. WhereTotal T.total (IsOutOfMemory e)) }
-        ensures first { IfErr result (λ e. WhereTotal T.total
-            (IsOutOfMemory e ⊎ ReportsFirst (limits_of None) (encoding self.now) e)) }
-        ensures fault { IfErr result (λ e. WhereTotal T.passes_over (IsOutOfMemory e
-            ⊎ RefusesUnread (T.reads from_slice_context) None (encoding self.now) e)) }
-        ensures own_fault { IfErr result (ReportsOwn
-            (reports_any T.passes_over T.total T.reports_faults) None (encoding self.now)) }
+        ensures answers { Answers T.passes_over T.total T.reports_faults
+            (T.reads from_slice_context) (T.asks_memory from_slice_asks) IsOutOfMemory None
+            (encoding self.now) result }
         ensures form { IfErr result
             (MayReport T.wrong_forms all_formats (start_of_slice (encoding self.now) None)) }
     {

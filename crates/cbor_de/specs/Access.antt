@@ -1,7 +1,7 @@
 -- The words for accesses: what opens one, and what a call on it takes. They speak of the deserializer
 -- before and after, and of what remains; `Accesses`, `MapAccesses` and `Variants` of `cbor_decode_as`
 -- say the same of inputs.
-use Rattle.std.specs.Prelude.{◌≡◌, ◌<◌, ◌≤◌, ℕ, Bool, List, Option, MatchOption, Result}
+use Rattle.std.specs.Prelude.{◌≡◌, ◌⊎◌, ◌<◌, ◌≤◌, ℕ, Bool, List, Option, MatchOption, Result}
 use Rattle.cbor_model.specs.Formats.{Formats}
 use Rattle.cbor_model.specs.Raw.{Raw}
 use Rattle.cbor_model.specs.Reader.{item_at}
@@ -165,6 +165,20 @@ abbrev pub NextFault : {R : Type 0} → (R → Input) → (ReadErrorCode → Boo
     → Deserializer R → Error → Type 0
 NextFault seen refusals passes_over total remaining old e =
     arrays.NextFault refusals (input.ReportsItem passes_over total refusals (formats_of old.decoder.formats) old.decoder.levels) remaining (seen old.decoder.source) e
+
+-- A message where no item comes; or as of the next item.
+abbrev pub MissingOrNextFault : {R : Type 0} → (R → Input) → (ReadErrorCode → Bool) → Bool → Bool
+    → Remaining → Deserializer R → Error → Type 0
+MissingOrNextFault seen refusals passes_over total remaining old e =
+    (input.IsMessage e × lists.NoneComes remaining (seen old.decoder.source))
+    ⊎ NextFault seen refusals passes_over total remaining old e
+
+-- Where memory ran out, the next item that is read as something is one for which memory may be asked; or no
+-- item comes.
+abbrev pub MemoryForItem : {R A : Type 0} → (R → Input) → (Raw → Type 0) → (Raw → A → Type 0)
+    → Remaining → Deserializer R → Error → Type 0
+MemoryForItem seen asks reads remaining old e =
+    lists.MemoryForItem asks (formats_of old.decoder.formats) reads old.decoder.levels remaining (seen old.decoder.source) e
 
 -- Where a type's refusals report the faults of the bytes: the fault of the items that remain and of the end, if
 -- the error reports one.

@@ -3,15 +3,17 @@ use Rattle.std.specs.Prelude.{◌≡◌, ◌⊎◌, ◌++◌, ℕ, Bool, List, R
 use Rattle.std.specs.Fmt.{decimal}
 use Rattle.cbor_model.specs.Formats.{Formats, all_formats}
 use Rattle.cbor_model.specs.Raw.{Raw, Raws}
+use Rattle.cbor_model.specs.Reader as reader
 use Rattle.cbor_model.specs.Reader.{Reads}
 use Rattle.cbor_io.specs.declared.error.Error.{Error}
+use Rattle.cbor_io.specs.declared.error.ErrorCode.TheVariants.{OutOfMemory}
 use Rattle.cbor_io.specs.declared.read_error.ReadErrorCode.{ReadErrorCode}
 use Rattle.cbor_io.specs.Error.{IsMessageOf, code_of, offset_of}
 use Rattle.cbor_read.specs.Source.{Input}
 use Rattle.cbor_decode.specs.Gives.{Reports, ReportsIo, Step, limits}
 use Rattle.cbor_decode.specs.Heads.{remaining_of}
 use Rattle.cbor_decode.specs.declared.cursor.Remaining.{Remaining}
-use Rattle.cbor_decode_as.specs.Accesses.{IsEnd, items_at}
+use Rattle.cbor_decode_as.specs.Accesses.{IsEnd, IsNextItem, items_at}
 use Rattle.cbor_decode_as.specs.Arrays.{AsArray, as_array_same, first_then_same}
 use Rattle.cbor_decode_as.specs.Enums.{part_then, no_part}
 use Rattle.cbor_decode_as.specs.Takes.{ExcusedBy, Refuses, ReportsIfAny}
@@ -47,6 +49,19 @@ ReportsShort refusals text remaining s e = (bs : List ℕ) → Reports s bs
     → (rest : List ℕ) → IsEnd (remaining_of remaining) (limits s bs) bs rest
     → ExcusedBy (ReportsIo refusals) (code_of e) (offset_of e)
     ⊎ (IsMessageOf (Some text) (code_of e) × (offset_of e ≡ 0))
+
+-- no item comes of an array of which so much remains
+abbrev pub NoneComes : Remaining → Input → Type 0
+NoneComes remaining s = (bs : List ℕ) → Reports s bs
+    → (rest : List ℕ) × IsEnd (remaining_of remaining) (limits s bs) bs rest
+
+-- Where memory ran out, the next item that is read as something is one for which memory may be asked.
+abbrev pub MemoryForItem : {A : Type 0} → (Raw → Type 0) → Formats → (Raw → A → Type 0) → ℕ → Remaining
+    → Input → Error → Type 0
+MemoryForItem {A} asks f reads levels remaining s e = code_of e ≡ OutOfMemory
+    → (bs : List ℕ) → Reports s bs → (x : A) (after : reader.Remaining) (rest : List ℕ)
+    → (next : IsNextItem reads f levels (remaining_of remaining) after x (limits s bs) bs rest)
+    → asks next.item.item
 
 -- ---- the fault
 

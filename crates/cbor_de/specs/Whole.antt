@@ -1,10 +1,11 @@
 -- A whole input that is read as one item.
-use Rattle.std.specs.Prelude.{◌⊎◌, ◌+◌, ℕ, Bool, List, [], ◌∷◌, length, true, false, Option, None, Result, Ok, Err, refl}
+use Rattle.std.specs.Prelude.{◌⊎◌, ◌+◌, ℕ, Bool, List, [], ◌∷◌, length, true, false, Option, None, Result, Ok, Err, IfOk, IfErr, MatchResult, refl}
 use Rattle.std.proofs.Common.{arith}
 use Rattle.cbor_model.specs.Raw as raw
 use Rattle.cbor_model.specs.Raw.{Raw, null_item}
 use Rattle.cbor_model.specs.Formats.{Formats, all_formats}
-use Rattle.cbor_model.specs.Readable.{Context, IsBool}
+use Rattle.cbor_model.specs.Laws.{SpellsValue}
+use Rattle.cbor_model.specs.Readable.{Context, IsBool, SpellsAs}
 use Rattle.cbor_model.specs.Spelling.{spell}
 use Rattle.cbor_model.specs.Acceptable.{max_depth, FitsScratch}
 use Rattle.cbor_model.specs.Allowed.{limits_of}
@@ -16,17 +17,18 @@ use Rattle.cbor_io.specs.declared.error.ErrorCode.{ErrorCode}
 use Rattle.cbor_io.specs.declared.error.ErrorCode.TheVariants.{EofWhileParsingValue}
 use Rattle.cbor_io.specs.declared.error.ErrorCode.TheVariants.{EofWhileParsingArray}
 use Rattle.cbor_io.specs.declared.error.ErrorCode.TheVariants.{EofWhileParsingMap, LengthOutOfRange}
-use Rattle.cbor_io.specs.declared.error.ErrorCode.TheVariants.{InvalidUtf8, UnassignedCode}
+use Rattle.cbor_io.specs.declared.error.ErrorCode.TheVariants.{InvalidUtf8, Io, UnassignedCode}
 use Rattle.cbor_io.specs.declared.error.ErrorCode.TheVariants.{UnexpectedCode, ScratchTooSmall}
 use Rattle.cbor_io.specs.declared.error.ErrorCode.TheVariants.{RecursionLimitExceeded}
 use Rattle.cbor_io.specs.declared.read_error.ReadErrorCode.{ReadErrorCode}
-use Rattle.cbor_io.specs.Error.{code_of, offset_of}
+use Rattle.cbor_io.specs.Error.{IsOutOfMemory, code_of, offset_of}
 use Rattle.cbor_read.specs.Source.{Input, Asks}
 use Rattle.cbor_decode.specs.FirstRefusal.{ReportsFirst}
 use Rattle.cbor_decode.specs.Gives.{FailsBy, limits, Reports, ReportsIo, whole_at}
 use Rattle.cbor_decode_as.specs.Takes.{raws, IsRead, IsNotRead, ExcusedBy, ReportsFault}
 use Rattle.cbor_decode_as.specs.Takes.{FaultOrMessage, IsMessage, ReportsIfAny, ReportsOf, WhereTotal}
 use Rattle.cbor_decode_as.specs.Takes.{any_item}
+use Rattle.cbor_de.specs.Calls.{reports_any}
 
 -- The one item that a source has to give is read as x, where so many levels are left.
 abbrev pub IsWholeRead : {A : Type 0} → Formats → (Raw → A → Type 0) → ℕ → Input → List ℕ → A
@@ -96,23 +98,56 @@ RefusesUnread reads scratch bytes e =
 abbrev pub WholeFault : (ReadErrorCode → Bool) → ℕ → Input → Error → Type 0
 WholeFault refusals levels s e = ReportsIfAny refusals (whole_at all_formats levels) s e
 
--- the codes that report a fault of the bytes, and nothing else
-abbrev pub IsOfBytes : ErrorCode → Type 0
-IsOfBytes EofWhileParsingValue = Unit {0}
-IsOfBytes EofWhileParsingArray = Unit {0}
-IsOfBytes EofWhileParsingMap = Unit {0}
-IsOfBytes LengthOutOfRange = Unit {0}
-IsOfBytes InvalidUtf8 = Unit {0}
-IsOfBytes UnassignedCode = Unit {0}
-IsOfBytes UnexpectedCode = Unit {0}
-IsOfBytes RecursionLimitExceeded = Unit {0}
-IsOfBytes ScratchTooSmall = Unit {0}
-IsOfBytes _ = ⊥
+-- the codes that report a fault of the input, of its bytes or of what gives them, and nothing else
+abbrev pub IsOfInput : ErrorCode → Type 0
+IsOfInput (Io fault) = Unit {0}
+IsOfInput EofWhileParsingValue = Unit {0}
+IsOfInput EofWhileParsingArray = Unit {0}
+IsOfInput EofWhileParsingMap = Unit {0}
+IsOfInput LengthOutOfRange = Unit {0}
+IsOfInput InvalidUtf8 = Unit {0}
+IsOfInput UnassignedCode = Unit {0}
+IsOfInput UnexpectedCode = Unit {0}
+IsOfInput RecursionLimitExceeded = Unit {0}
+IsOfInput ScratchTooSmall = Unit {0}
+IsOfInput _ = ⊥
 
--- Where a type's refusals report the faults of the bytes, one by such a code is the first that the bytes allow.
-abbrev pub ReportsOwn : Bool → Option ℕ → List ℕ → Error → Type 0
-ReportsOwn reports_faults scratch bytes e =
-    WhereTotal reports_faults (IsOfBytes (code_of e) → ReportsFirst (limits_of scratch) bytes e)
+-- Where a type's refusals report the faults of the bytes, one by such a code is the first that the bytes
+-- allow, or excused.
+abbrev pub ReportsOwn : Bool → (Error → Type 0) → Option ℕ → List ℕ → Error → Type 0
+ReportsOwn reports_faults Excused scratch bytes e = WhereTotal reports_faults
+    (IsOfInput (code_of e) → Excused e ⊎ ReportsFirst (limits_of scratch) bytes e)
+
+-- ---- what is answered
+
+-- What a call answers that reads these bytes, the whole of them, as a type. Excused are errors that may come
+-- whatever the bytes are: that memory ran out, and of a reader the fault of its device.
+pub record Answers {A : Type 0} (passes_over total reports_faults : Bool) (reads : Raw → A → Type 0)
+    (asks : Raw → Type 0) (Excused : Error → Type 0) (scratch : Option ℕ) (bytes : List ℕ)
+    (result : Result A Error) : Type 0 where
+  -- The bytes encode an acceptable item, and it is read so.
+  pub found : IfOk result (SpellsAs all_formats reads bytes)
+  -- Each such item whose chunks fit the scratch is read, but for what is excused,
+  pub accepted : (x : A) → (spelt : SpellsAs all_formats reads bytes x)
+      → FitsScratch scratch spelt.item → IfErr result Excused
+  -- and memory runs out only for one for which the type may ask for it.
+  pub memory : (x : A) → (spelt : SpellsAs all_formats reads bytes x)
+      → FitsScratch scratch spelt.item → IfErr result (λ e. IsOutOfMemory e → asks spelt.item)
+  -- The acceptable item that the bytes encode is the one that is read; and where the type reads every
+  -- item, it is read, but for what is excused.
+  pub every : (v : Val) → (spelt : SpellsValue bytes v) → FitsScratch scratch spelt.item
+      → MatchResult result (reads spelt.item) (λ e. WhereTotal total (Excused e))
+  -- A refusal by a type that reads every item is the first that the bytes allow, or excused;
+  pub first : IfErr result (λ e. WhereTotal total
+      (Excused e ⊎ ReportsFirst (limits_of scratch) bytes e))
+  -- by one that passes over what it doesn't read, a message if the bytes begin with such an item, and the
+  -- first that they allow if they don't;
+  pub fault : IfErr result (λ e. WhereTotal passes_over
+      (Excused e ⊎ RefusesUnread reads scratch bytes e))
+  -- and by one that reports the faults of the bytes, the first that they allow, or excused, where its code is
+  -- that of a fault.
+  pub own_fault : IfErr result
+      (ReportsOwn (reports_any passes_over total reports_faults) Excused scratch bytes)
 
 -- ---- what is lent
 

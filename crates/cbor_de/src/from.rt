@@ -1,25 +1,20 @@
 //! Reading a whole input as a type.
 
-ghost use Rattle.std.specs.Prelude.{◌^◌, ◌<◌, ◌⊎◌, ℕ, List, [], length, Some, None};
-ghost use Rattle.std.specs.Prelude.{IfOk, IfErr, MatchResult};
-ghost use Rattle.cbor_model.specs.Acceptable.{max_depth, FitsScratch};
-ghost use Rattle.cbor_model.specs.Allowed.{limits_of};
+ghost use Rattle.std.specs.Prelude.{◌^◌, ◌<◌, ℕ, List, length, Some, None};
+ghost use Rattle.std.specs.Prelude.{IfErr, MatchResult};
+ghost use Rattle.cbor_model.specs.Acceptable.{max_depth};
 ghost use Rattle.cbor_model.specs.Formats.{all_formats};
 ghost use Rattle.cbor_model.specs.Laws.{SpellsValue};
 ghost use Rattle.cbor_model.specs.Plain.{Val};
 ghost use Rattle.cbor_model.specs.Raw.{AreBytes, longest_joined};
-ghost use Rattle.cbor_model.specs.Readable.{SpellsAs};
 ghost use Rattle.cbor_io.specs.Error.{IsOutOfMemory};
-ghost use Rattle.cbor_decode.specs.FirstRefusal.{ReportsFirst};
-ghost use Rattle.cbor_decode.specs.Gives.{Gave};
-ghost use Rattle.cbor_decode.specs.Gives.{IsMemoryOrFault, IsScratchOrMemory};
+ghost use Rattle.cbor_decode.specs.Gives.{Gave, IsMemoryOrFault, IsScratchOrMemory};
 ghost use Rattle.cbor_read.specs.Source.{asks_for, start_of_reader, start_of_slice};
 ghost use Rattle.cbor_decode_as.specs.Takes.{context, formats_of, lending, MemoryFor, WhereTotal};
 ghost use Rattle.cbor_de.specs.Forms.{MayReport};
-ghost use Rattle.cbor_de.specs.Whole.{ReadsAll, RefusesUnread, ReportsWhole, from_slice_context};
-ghost use Rattle.cbor_de.specs.Whole.{from_mut_slice_context, from_reader_context};
-ghost use Rattle.cbor_de.specs.Whole.{ReportsOwn, WholeFault};
-ghost use Rattle.cbor_de.specs.Whole.{asks_none, from_reader_asks, from_slice_asks};
+ghost use Rattle.cbor_de.specs.Whole.{Answers, ReadsAll, ReportsWhole, WholeFault, asks_none};
+ghost use Rattle.cbor_de.specs.Whole.{from_mut_slice_context, from_reader_asks};
+ghost use Rattle.cbor_de.specs.Whole.{from_reader_context, from_slice_asks, from_slice_context};
 ghost use Rattle.cbor_de.specs.Calls as call;
 
 use crate::de::Deserializer;
@@ -134,33 +129,8 @@ pub fn from_slice<'a, T: Deserialize<'a, SliceRead<'a>>>(
     alloc: Global,
     slice: &'a [u8],
 ) -> Result<T>
-    // The bytes encode an acceptable item, and it is read so.
-    ensures found { IfOk result (SpellsAs all_formats (T.reads from_slice_context) slice.now) }
-    // Each such item is read, unless memory runs out.
-    ensures accepted { (x : T) → SpellsAs all_formats (T.reads from_slice_context) slice.now x
-        → IfErr result IsOutOfMemory }
-    // Memory runs out only for an item for which the type may ask for it: bool, numbers, floats,
-    // (), borrowed strings, Option of these, and a Value that is a number, a bool, a float or null
-    // ask for none, so that where such an item is there it is read.
-    ensures memory { (x : T)
-        → (spelt : SpellsAs all_formats (T.reads from_slice_context) slice.now x)
-        → IfErr result (λ e. T.asks_memory from_slice_asks spelt.item) }
-    // The acceptable item that the bytes encode is the one that is read; and where the type reads
-    // every item, it is read, unless memory runs out.
-    ensures every { (v : Val) → (spelt : SpellsValue slice.now v)
-        → MatchResult result (T.reads from_slice_context spelt.item)
-        (λ e. WhereTotal T.total (IsOutOfMemory e)) }
-    // A refusal of it is the first that the bytes allow, or memory ran out.
-    ensures first { IfErr result (λ e. WhereTotal T.total
-        (IsOutOfMemory e ⊎ ReportsFirst (limits_of None) slice.now e)) }
-    // Where the type passes over an item that it doesn't read, a refusal is a message if the bytes
-    // begin with such an item, and the first that they allow if they don't; or memory ran out.
-    ensures fault { IfErr result (λ e. WhereTotal T.passes_over
-        (IsOutOfMemory e ⊎ RefusesUnread (T.reads from_slice_context) None slice.now e)) }
-    // Where the type reports the faults of the bytes, as vectors, arrays, tuples, sets and boxes of
-    // types that do, a refusal by the code of such a fault is the first that the bytes allow.
-    ensures own_fault { IfErr result (ReportsOwn
-        (call.reports_any T.passes_over T.total T.reports_faults) None slice.now) }
+    ensures answers { Answers T.passes_over T.total T.reports_faults (T.reads from_slice_context)
+        (T.asks_memory from_slice_asks) IsOutOfMemory None slice.now result }
     // A wrong form is reported by a code, and at a place, that the type may report it by and at.
     ensures form { IfErr result
         (MayReport T.wrong_forms all_formats (start_of_slice slice.now None)) }
@@ -187,31 +157,13 @@ pub fn from_slice_with_scratch<'a, T: Deserialize<'a, SliceReadFixed<'a, 'a>>>(
     slice: &'a [u8],
     scratch: &'a mut [u8],
 ) -> Result<T>
-    ensures found { IfOk result (SpellsAs all_formats (T.reads from_slice_context) slice.now) }
-    // Each such item whose chunks fit the scratch is read, unless memory runs out.
-    ensures accepted { (x : T)
-        → (spelt : SpellsAs all_formats (T.reads from_slice_context) slice.now x)
-        → FitsScratch (Some (length scratch.old)) spelt.item → IfErr result IsOutOfMemory }
-    ensures memory { (x : T)
-        → (spelt : SpellsAs all_formats (T.reads from_slice_context) slice.now x)
-        → FitsScratch (Some (length scratch.old)) spelt.item
-        → IfErr result (λ e. T.asks_memory asks_none spelt.item) }
-    ensures every { (v : Val) → (spelt : SpellsValue slice.now v)
-        → FitsScratch (Some (length scratch.old)) spelt.item
-        → MatchResult result (T.reads from_slice_context spelt.item)
-        (λ e. WhereTotal T.total (IsOutOfMemory e)) }
+    ensures answers { Answers T.passes_over T.total T.reports_faults (T.reads from_slice_context)
+        (T.asks_memory asks_none) IsOutOfMemory (Some (length scratch.old)) slice.now result }
     // An item with a string in chunks that is longer than the scratch isn't read; where the type
     // reads every item, that is reported, unless memory runs out.
     ensures small { (v : Val) → (spelt : SpellsValue slice.now v)
         → length scratch.old < longest_joined spelt.item
         → MatchResult result (λ x. ⊥) (λ e. WhereTotal T.total (IsScratchOrMemory e)) }
-    ensures first { IfErr result (λ e. WhereTotal T.total
-        (IsOutOfMemory e ⊎ ReportsFirst (limits_of (Some (length scratch.old))) slice.now e)) }
-    ensures fault { IfErr result (λ e. WhereTotal T.passes_over (IsOutOfMemory e
-        ⊎ RefusesUnread (T.reads from_slice_context) (Some (length scratch.old)) slice.now e)) }
-    ensures own_fault { IfErr result (ReportsOwn
-        (call.reports_any T.passes_over T.total T.reports_faults) (Some (length scratch.old))
-        slice.now) }
     ensures form { IfErr result (MayReport T.wrong_forms all_formats
         (start_of_slice slice.now (Some (length scratch.old)))) }
 {
@@ -232,23 +184,8 @@ pub fn from_mut_slice<'a, T: Deserialize<'a, MutSliceRead<'a>>>(
     alloc: Global,
     slice: &'a mut [u8],
 ) -> Result<T>
-    ensures found { IfOk result
-        (SpellsAs all_formats (T.reads from_mut_slice_context) slice.old) }
-    ensures accepted { (x : T)
-        → SpellsAs all_formats (T.reads from_mut_slice_context) slice.old x
-        → IfErr result IsOutOfMemory }
-    ensures memory { (x : T)
-        → (spelt : SpellsAs all_formats (T.reads from_mut_slice_context) slice.old x)
-        → IfErr result (λ e. T.asks_memory asks_none spelt.item) }
-    ensures every { (v : Val) → (spelt : SpellsValue slice.old v)
-        → MatchResult result (T.reads from_mut_slice_context spelt.item)
-        (λ e. WhereTotal T.total (IsOutOfMemory e)) }
-    ensures first { IfErr result (λ e. WhereTotal T.total
-        (IsOutOfMemory e ⊎ ReportsFirst (limits_of None) slice.old e)) }
-    ensures fault { IfErr result (λ e. WhereTotal T.passes_over
-        (IsOutOfMemory e ⊎ RefusesUnread (T.reads from_mut_slice_context) None slice.old e)) }
-    ensures own_fault { IfErr result (ReportsOwn
-        (call.reports_any T.passes_over T.total T.reports_faults) None slice.old) }
+    ensures answers { Answers T.passes_over T.total T.reports_faults (T.reads from_mut_slice_context)
+        (T.asks_memory asks_none) IsOutOfMemory None slice.old result }
     ensures form { IfErr result
         (MayReport T.wrong_forms all_formats (start_of_slice slice.old None)) }
 {
@@ -267,24 +204,10 @@ pub fn from_vec<'de, T: DeserializeOwned + Deserialize<'de, VecRead>>(
     alloc: Global,
     bytes: Vec<u8>,
 ) -> Result<T>
-    // As of `from_slice`:
-    ensures found { IfOk result (SpellsAs all_formats (T.reads from_reader_context) bytes.items) }
-    ensures accepted { (x : T) → SpellsAs all_formats (T.reads from_reader_context) bytes.items x
-        → IfErr result IsOutOfMemory }
-    ensures memory { (x : T)
-        → (spelt : SpellsAs all_formats (T.reads from_reader_context) bytes.items x)
-        → IfErr result (λ e. T.asks_memory from_reader_asks spelt.item) }
-    ensures every { (v : Val) → (spelt : SpellsValue bytes.items v)
-        → MatchResult result (T.reads from_reader_context spelt.item)
-        (λ e. WhereTotal T.total (IsOutOfMemory e)) }
-    ensures first { IfErr result (λ e. WhereTotal T.total
-        (IsOutOfMemory e ⊎ ReportsFirst (limits_of None) bytes.items e)) }
-    ensures fault { IfErr result (λ e. WhereTotal T.passes_over
-        (IsOutOfMemory e ⊎ RefusesUnread (T.reads from_reader_context) None bytes.items e)) }
-    ensures own_fault { IfErr result (ReportsOwn
-        (call.reports_any T.passes_over T.total T.reports_faults) None bytes.items) }
-    ensures form { IfErr result (MayReport T.wrong_forms all_formats
-        (start_of_slice bytes.items None)) }
+    ensures answers { Answers T.passes_over T.total T.reports_faults (T.reads from_reader_context)
+        (T.asks_memory from_reader_asks) IsOutOfMemory None bytes.items result }
+    ensures form { IfErr result
+        (MayReport T.wrong_forms all_formats (start_of_slice bytes.items None)) }
 {
     are_bytes(&bytes);
     read_all(alloc, VecRead::new(alloc, bytes))
@@ -316,36 +239,11 @@ where
     T: DeserializeOwned + Deserialize<'de, BufferedRead<R, InlineBlock>>,
     R: io::Read + Drop,
     // Of a reader that reports its bytes, fewer than 2^64, however it gives them:
-    ensures found { (bytes : List ℕ) → Gave (R.remaining reader) bytes
-        → IfOk result (SpellsAs all_formats (T.reads from_reader_context) bytes) }
-    // Each such item is read, unless memory runs out or the reader reports a fault.
-    ensures accepted { (bytes : List ℕ) → Gave (R.remaining reader) bytes
-        → (x : T) → SpellsAs all_formats (T.reads from_reader_context) bytes x
-        → IfErr result IsMemoryOrFault }
-    // Memory runs out only for an item for which the type may ask for it.
-    ensures memory { (bytes : List ℕ) → Gave (R.remaining reader) bytes
-        → (x : T) → (spelt : SpellsAs all_formats (T.reads from_reader_context) bytes x)
-        → IfErr result (λ e. IsOutOfMemory e → T.asks_memory from_reader_asks spelt.item) }
-    // The acceptable item that the bytes encode is the one that is read; and where the type reads
-    // every item, it is read, with the same exceptions.
-    ensures every { (bytes : List ℕ) → Gave (R.remaining reader) bytes
-        → (v : Val) → (spelt : SpellsValue bytes v)
-        → MatchResult result (T.reads from_reader_context spelt.item)
-        (λ e. WhereTotal T.total (IsMemoryOrFault e)) }
-    // A refusal of it is the first that the bytes allow, or memory ran out, or the reader reported
-    // a fault.
-    ensures first { (bytes : List ℕ) → Gave (R.remaining reader) bytes
-        → IfErr result (λ e. WhereTotal T.total
-        (IsMemoryOrFault e ⊎ ReportsFirst (limits_of None) bytes e)) }
-    // Of a type that passes over what it doesn't read, with the same exceptions:
-    ensures fault { (bytes : List ℕ) → Gave (R.remaining reader) bytes
-        → IfErr result (λ e. WhereTotal T.passes_over
-        (IsMemoryOrFault e ⊎ RefusesUnread (T.reads from_reader_context) None bytes e)) }
-    ensures own_fault { (bytes : List ℕ) → Gave (R.remaining reader) bytes
-        → IfErr result (ReportsOwn (call.reports_any T.passes_over T.total T.reports_faults)
-        None bytes) }
-    ensures form { IfErr result (MayReport T.wrong_forms all_formats
-        (start_of_reader (R.remaining reader))) }
+    ensures answers { (bytes : List ℕ) → Gave (R.remaining reader) bytes
+        → Answers T.passes_over T.total T.reports_faults (T.reads from_reader_context)
+        (T.asks_memory from_reader_asks) IsMemoryOrFault None bytes result }
+    ensures form { IfErr result
+        (MayReport T.wrong_forms all_formats (start_of_reader (R.remaining reader))) }
 {
     read_all(alloc, BufferedRead::inline(alloc, reader))
 }

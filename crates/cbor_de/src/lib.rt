@@ -52,7 +52,6 @@ pub use laws::{
     variant_taken, variant_tuple_taken, variant_unit_taken,
 };
 pub use map::MapAccess;
-pub use ready::read_gathered;
 pub use sequence::SeqAccess;
 pub use stream::StreamDeserializer;
 pub use stream_laws::{

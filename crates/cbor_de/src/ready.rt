@@ -2,7 +2,6 @@
 
 ghost use Rattle.std.specs.Prelude.{IfErr, OnSome};
 ghost use Rattle.cbor_decode.specs.Decoder.{SameSettings};
-ghost use Rattle.cbor_read.specs.Source.{asks_for};
 ghost use Rattle.cbor_decode_as.specs.Takes.{context};
 ghost use Rattle.cbor_de.specs.Calls as call;
 
@@ -26,19 +25,15 @@ pub(crate) fn ready<T: Readable, R: Source>(de: &mut Deserializer<R>) -> Option<
     }
 }
 
-/// Reads an item that isn't whole at hand: by [`Readable::gathered`], or by
-/// [`Deserialize::deserialize`].
+// Reads an item that isn't whole at hand: gathered, or by `deserialize`.
 #[tactic(auto, using(crate::proofs::refusals::Forms::plain))]
-pub fn read_gathered<'de, R: Read<'de>, T: Deserialize<'de, R>>(
+pub(crate) fn read_gathered<'de, R: Read<'de>, T: Deserialize<'de, R>>(
     de: &mut Deserializer<R>,
 ) -> Result<T>
     ensures read { call.TakesItem R.source R.refusals
         (T.reads (context de.old.decoder.formats R.lends)) de.old de.new result }
     ensures own_fault { IfErr result (call.OwnFault R.source R.refusals
         (call.reports_any T.passes_over T.total T.reports_faults) de.old) }
-    ensures memory { IfErr result (call.MemoryFor R.source
-        (T.asks_memory (asks_for R.refusals R.lends))
-        (T.reads (context de.old.decoder.formats R.lends)) de.old) }
     ensures form { IfErr result (call.MayReport R.source T.wrong_forms de.old) }
     ensures settings { SameSettings de.old.decoder de.new.decoder }
 {

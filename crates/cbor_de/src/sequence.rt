@@ -7,7 +7,7 @@ ghost use Rattle.cbor_io.specs.Error.{IsMessageOf, code_of, offset_of};
 ghost use Rattle.cbor_read.specs.Source.{asks_for};
 ghost use Rattle.cbor_io.specs.declared.error.ErrorCode.TheVariants.{OutOfMemory};
 ghost use Rattle.cbor_decode.specs.Gives.{IsErrorOf, ReportsNoForm};
-ghost use Rattle.cbor_decode.specs.Gives.{ReportsNoKey, ReportsWhy};
+ghost use Rattle.cbor_decode.specs.Gives.{ReportsNoKey, ReportsNoMemory, ReportsWhy};
 ghost use Rattle.cbor_decode.specs.Heads.{remaining_of};
 ghost use Rattle.cbor_model.specs.Reader.{next_at};
 ghost use Rattle.cbor_model.specs.Refusal.{end_in_array};
@@ -194,7 +194,14 @@ impl<'a, R: Source> SeqAccess<'a, R> {
             self.new.remaining self.old.de.now self.new.de.now result }
         ensures short { IfErr result (ReportsShort R.refusals (length_text before expected)
             self.old.remaining (R.source self.old.de.now.decoder.source)) }
-        // What the reading of `T` reports of the bytes; a missing item is a message.
+        // Memory is asked for by the reading of `T`, and for the text where no item comes.
+        ensures memory { IfErr result (access.MemoryForItem R.source
+            (T.asks_memory (asks_for R.refusals R.lends))
+            (T.reads (context self.old.de.now.decoder.formats R.lends)) self.old.remaining
+            self.old.de.now) }
+        // Where no item comes it is a message, and else as for `next_element`.
+        ensures fault { IfErr result (access.MissingOrNextFault R.source R.refusals T.passes_over
+            T.total self.old.remaining self.old.de.now) }
         ensures own_fault { IfErr result (access.ItemsFault R.source R.refusals
             (call.reports_any T.passes_over T.total T.reports_faults) self.old.remaining
             self.old.de.now) }
@@ -279,6 +286,7 @@ impl<'a, R: Source> SeqAccess<'a, R> {
             (R.source self.old.de.now.decoder.source) self.new.de.now.decoder.refusal) }
         ensures counts { IfOk result (λ more. Counts self.old.remaining more self.new.remaining) }
         ensures no_key { IfErr result (ReportsNoKey self.new.de.now.decoder.refusal) }
+        ensures memory { IfErr result (ReportsNoMemory self.new.de.now.decoder.refusal) }
         ensures settings { SameSettings self.old.de.now.decoder self.new.de.now.decoder }
         ensures outer { self.new.outer ≡ self.old.outer }
     {

@@ -201,6 +201,8 @@ impl<'a, R: Source> StructAccess<'a, R> {
             (V.reads (context self.old.de.now.decoder.formats R.lends)) self.old.de.now) }
         ensures fault { IfErr result (call.ReportsItem R.source R.refusals V.passes_over V.total
             self.old.de.now) }
+        ensures own_fault { IfErr result
+            (call.OwnFault R.source R.refusals V.reports_faults self.old.de.now) }
         ensures form { IfErr result (call.MayReport R.source V.wrong_forms self.old.de.now) }
         ensures due { IfOk result (λ v. self.new.value_due ≡ false) }
         ensures settings { call.StaysInside self.old.outer self.old.de.now self.new.de.now result }
@@ -257,6 +259,8 @@ impl<'a, R: Source> StructAccess<'a, R> {
             (V.reads (context self.old.de.now.decoder.formats R.lends)) self.old.de.now e) }
         ensures fault { IfErr result (λ e. is_some slot.old ≡ false
             → call.ReportsItem R.source R.refusals V.passes_over V.total self.old.de.now e) }
+        ensures own_fault { IfErr result (λ e. is_some slot.old ≡ false
+            → call.OwnFault R.source R.refusals V.reports_faults self.old.de.now e) }
         ensures form { IfErr result (call.MayReport R.source V.wrong_forms self.old.de.now) }
         ensures text { IfErr result (λ e. is_some slot.old ≡ true →
             IsMessageOf (Some (duplicate_text name.now)) (code_of e)) }
@@ -328,6 +332,9 @@ impl<'a, R: Source> StructAccess<'a, R> {
             self.old.de.now self.new.de.now result }
         ensures memory { IfErr result (call.MemoryFor R.source
             (λ r. AsksWhere (asks_for R.refusals R.lends) (HasChunks r)) IsAny self.old.de.now) }
+        // Every item is passed over: what is refused is the first fault there.
+        ensures fault { IfErr result (call.ReportsItem R.source R.refusals false true
+            self.old.de.now) }
         ensures form { IfErr result (call.MayReport R.source key_form self.old.de.now) }
         ensures due { IfOk result (λ u. self.new.value_due ≡ false) }
         ensures settings { call.StaysInside self.old.outer self.old.de.now self.new.de.now result }

@@ -1,5 +1,5 @@
 -- What the calls that write a value and read it again answer.
-use Rattle.std.proofs.Common.{◌≡◌, ◌≤◌, ◌⊎◌, inl, ℕ, Bool, List, false, true, refl, subst, sym}
+use Rattle.std.proofs.Common.{◌≡◌, ◌≤◌, ℕ, List, false, subst, sym}
 use Rattle.std.specs.Prelude.{Result, Ok, Err, IfOk, IfErr}
 use Rattle.std.specs.Result.{IsErrAnd}
 use Rattle.std.proofs.lemmas.Result.{IfOk-weaker}
@@ -10,12 +10,10 @@ use Rattle.cbor_model.specs.Raw.{Raw, depth}
 use Rattle.cbor_model.specs.Readable.{Context, SpellsAs}
 use Rattle.cbor_io.specs.Error.{IsOutOfMemory}
 use Rattle.cbor_io.specs.declared.error.Error.{Error}
-use Rattle.cbor_io.specs.declared.error.ErrorCode.{ErrorCode}
-use Rattle.cbor_io.specs.declared.error.ErrorCode.TheVariants.{Message, OutOfMemory}
 use Rattle.cbor_read.specs.Source.{Lends}
-use Rattle.cbor_ser.specs.Written.{IsNotWritten, IsRefusedBy, IsUnstorableCode, SaysUnstorable}
-use Rattle.cbor_decode_as.specs.Takes.{WhereTotal}
+use Rattle.cbor_ser.specs.Written.{IsNotWritten}
 use Rattle.cbor_de.specs.Whole.{from_reader_context}
+use Rattle.cbor_convert.proofs.ReadWritten.{memory_code}
 use Rattle.cbor_round_trip.specs.ReadBack.{IsReadBack}
 use Rattle.cbor_round_trip.proofs.WrittenReadBack.{written}
 
@@ -23,31 +21,11 @@ use Rattle.cbor_round_trip.proofs.WrittenReadBack.{written}
 abbrev of_reader : Lends
 of_reader = record { whole = false; joined = false }
 
-memory_code : (code : ErrorCode) (S : Type 0) → S → IsRefusedBy code S → code ≡ OutOfMemory
-memory_code (Message text) S s h = absurd (h.1 s)
-memory_code OutOfMemory S s h = refl
-memory_code _ S s h = absurd h
-
 -- what can be stored is refused for lack of memory alone
 pub only_memory : {T : Type 0} (r : Result T Error) (S : Type 0) (e : Error) → IsNotWritten S e → IsErrAnd r (λ x. x ≡ e)
     → S → IfErr r IsOutOfMemory
 only_memory (Ok x) S e h is s = tt
 only_memory (Err x) S e h is s = subst IsOutOfMemory (sym is) (memory_code e.code S s h.0, h.1)
-
-pub first_by_memory : {A : Type 0} (total : Bool) (r : Result A Error) (P : Error → Type 0) → IfErr r IsOutOfMemory → IfErr r (λ e. WhereTotal total (IsOutOfMemory e ⊎ P e))
-first_by_memory total (Ok x) P h = tt
-first_by_memory false (Err e) P h = tt
-first_by_memory true (Err e) P h = inl h
-
--- what can't be is reported so
-unstorable_code : (code : ErrorCode) (S : Type 0) → IsRefusedBy code S → IsUnstorableCode code
-unstorable_code (Message text) S h = h.0
-unstorable_code OutOfMemory S h = tt
-unstorable_code _ S h = absurd h
-
-pub reported_unstorable : {T : Type 0} (r : Result T Error) (S : Type 0) (e : Error) → IsNotWritten S e → IsErrAnd r (λ x. x ≡ e) → IfErr r SaysUnstorable
-reported_unstorable (Ok x) S e h is = tt
-reported_unstorable (Err x) S e h is = subst SaysUnstorable (sym is) (unstorable_code e.code S h.0, h.1)
 
 module _ {A : Type 0} (document : A → Doc) (reads : Context → Raw → A → Type 0) (fits : A → Type 0) (determined : Type 0) (law : IsReadBack document reads fits determined)
     (x : A) (bytes : List ℕ) (stored : IsStorableDocument (document x)) (range : IsDocumentInRange (document x)) (is : bytes ≡ document_bytes (document x) false false) where

@@ -1,14 +1,12 @@
 //! The law over what is written, and over the calls.
 
-ghost use Rattle.std.specs.Prelude.{◌≡◌, ◌≤◌, ◌⊎◌, false, None, IfOk, IfErr, OnOk};
+ghost use Rattle.std.specs.Prelude.{◌≡◌, ◌≤◌, false, IfOk, IfErr};
 ghost use Rattle.cbor_model.specs.Acceptable.{max_depth};
-ghost use Rattle.cbor_model.specs.Allowed.{limits_of};
 ghost use Rattle.cbor_model.specs.Document.{document_bytes, raw_of, IsStorableDocument};
 ghost use Rattle.cbor_model.specs.Raw.{depth};
 ghost use Rattle.cbor_io.specs.Error.{IsOutOfMemory};
-ghost use Rattle.cbor_ser.specs.Written.{SaysUnstorable};
-ghost use Rattle.cbor_decode.specs.FirstRefusal.{ReportsFirst};
-ghost use Rattle.cbor_decode_as.specs.Takes.{WhereTotal};
+ghost use Rattle.cbor_de.specs.Whole.{from_reader_context};
+ghost use Rattle.cbor_convert.specs.ReadWritten.{ReadsWritten};
 ghost use Rattle.cbor_round_trip.specs.ReadBack.{IsWrittenReadBack, ReadsOneValue};
 
 use crate::round_trip::RoundTrip;
@@ -44,7 +42,7 @@ pub fn one_value<T: RoundTrip>()
 /// It refuses what [`to_vec`] refuses, an integer outside `-2^64..=2^64-1` at any depth, with the
 /// message `The number can't be stored in CBOR`; what is nested deeper than the 127 levels that are
 /// read, with `RecursionLimitExceeded`, where the type reads every item; and it returns
-/// `OutOfMemory` where an allocation fails. Nothing else is refused.
+/// `OutOfMemory` where an allocation fails. Nothing else of a value that keeps the law is refused.
 ///
 /// ```rust
 /// let again: u32 = write_and_read(alloc, &500)?;
@@ -60,15 +58,10 @@ pub fn write_and_read<'de, T: RoundTrip + Deserialize<'de, VecRead>>(
     ensures answered { T.law.fits value.now → IsStorableDocument (T.document value.now)
         → depth (raw_of (T.document value.now) false false) ≤ max_depth
         → IfErr result IsOutOfMemory }
-    // What can't be stored is refused by that message, unless memory runs out.
-    ensures storable { OnOk result (IsStorableDocument (T.document value.now)) }
-    ensures refused { (IsStorableDocument (T.document value.now) → ⊥)
-        → IfErr result SaysUnstorable }
-    // What can be is refused, where the type reads every item, for lack of memory, or by the first
-    // refusal of its encoding, as one that is nested too deep.
-    ensures first { IsStorableDocument (T.document value.now)
-        → IfErr result (λ e. WhereTotal T.total (IsOutOfMemory e
-        ⊎ ReportsFirst (limits_of None) (document_bytes (T.document value.now) false false) e)) }
+    // What is written is read, if it can be stored: so it is refused as its encoding is.
+    ensures answers { ReadsWritten T.passes_over T.total T.reports_faults T.wrong_forms
+        (T.reads from_reader_context) (IsStorableDocument (T.document value.now))
+        (document_bytes (T.document value.now) false false) result }
 {
     let bytes = to_vec(alloc, value)?;
     from_vec(alloc, bytes)

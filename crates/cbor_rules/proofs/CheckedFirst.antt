@@ -19,7 +19,7 @@ use Rattle.cbor_decode.specs.Gives.{ReportsNoForm}
 use Rattle.cbor_decode.specs.HasChunks.{AsksWhere, HasChunks}
 use Rattle.cbor_decode_as.specs.Takes.{WhereTotal}
 use Rattle.cbor_de.specs.Forms.{MayReport, WrongForms}
-use Rattle.cbor_de.specs.Whole.{from_slice_asks}
+use Rattle.cbor_de.specs.Whole.{ReportsOwn, from_slice_asks}
 use Rattle.cbor_de.proofs.facts.Forms.{plain}
 use Rattle.cbor_rules.specs.Answers.{IfDeparts, IfUnread, ReportsItsDeparture, SpellsByRules, SpellsDeparting}
 use Rattle.cbor_rules.specs.Checked.{AsksToCheck, EncodeNone, ReportsFirstRefusal}
@@ -87,6 +87,11 @@ refused_first terms bs (Departs d) none first departed = absurd (none departed.t
 pub unread_where : (b : Bool) (P : Error → Type 0) (e : Refusal) → IfUnread P e → IfUnread (λ e. WhereTotal b (P e)) e
 unread_where b P (Unread e) holds = where_any b holds
 unread_where b P (Departs d) holds = tt
+
+-- the first refusal of the bytes is the first fault that they allow
+pub first_is_own : (b : Bool) (bs : List ℕ) (e : Refusal) → IfUnread (λ e. IsOutOfMemory e ⊎ ReportsFirst (limits_of None) bs e) e → IfUnread (ReportsOwn b IsOutOfMemory None bs) e
+first_is_own b bs (Unread e) holds = where_any b (λ is. holds)
+first_is_own b bs (Departs d) holds = tt
 
 -- an item is refused for want of memory
 pub wanted_memory : (terms : Terms) (r : Raw) (P : Error → Type 0) (e : Refusal) → ReportsItsDeparture terms r e → IfUnread (λ e. IsOutOfMemory e ⊎ P e) e

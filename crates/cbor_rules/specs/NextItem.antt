@@ -1,6 +1,6 @@
 -- Reading items one after the other by rules: where it stands, and what a call answers.
-use Rattle.std.specs.Prelude.{◌≡◌, ◌⊎◌, ◌+◌, ◌≤◌, ℕ, List, [], length, drop, Option, Some, None}
-use Rattle.std.specs.Prelude.{refl}
+use Rattle.std.specs.Prelude.{◌≡◌, ◌≢◌, ◌⊎◌, ◌+◌, ◌≤◌, ℕ, Bool, true, List, [], length, drop}
+use Rattle.std.specs.Prelude.{Option, Some, None, Result, IfErr, IfOk, IfSome, MatchResult, OnErr, refl}
 use Rattle.cbor_model.specs.Acceptable.{max_depth}
 use Rattle.cbor_model.specs.Formats.{all_formats}
 use Rattle.cbor_model.specs.Raw.{Raw}
@@ -9,12 +9,15 @@ use Rattle.cbor_model.specs.Spelling.{spell}
 use Rattle.cbor_io.specs.Error.{IsOutOfMemory}
 use Rattle.cbor_read.specs.Source.{Input, slice_input}
 use Rattle.cbor_decode.specs.FirstRefusal.{ReportsFirst}
-use Rattle.cbor_decode_as.specs.Takes.{IsMessage}
+use Rattle.cbor_decode_as.specs.Takes.{IsMessage, WhereTotal}
 use Rattle.cbor_de.specs.FirstOfItem.{bounds_of}
+use Rattle.cbor_de.specs.Forms.{MayReport, WrongForms}
 use Rattle.cbor_de.specs.ItemTaken.{BeginsAs}
 use Rattle.cbor_de.specs.Whole.{BeginsUnread}
 use Rattle.cbor_io.specs.declared.error.Error.{Error}
-use Rattle.cbor_rules.specs.Rules.{Terms, Keeps, first_departure, under}
+use Rattle.cbor_rules.specs.Answers.{IfDeparts, IfUnread, IsMemory}
+use Rattle.cbor_rules.specs.Rules.{Terms, Keeps, first_departure, is_unique, under}
+use Rattle.cbor_rules.specs.Unique.{HasPair}
 use Rattle.cbor_rules.specs.declared.answers.Departure.{Departure}
 use Rattle.cbor_rules.specs.declared.answers.Refusal.{Refusal}
 use Rattle.cbor_rules.specs.declared.answers.Refusal.TheVariants.{Unread, Departs}
@@ -102,6 +105,48 @@ RefusesNext reads s e =
     (IsMessage e × BeginsUnread reads None (to_come s))
     ⊎ (ReportsFirst (bounds_of max_depth (source_of s)) (to_come s) e
     × (BeginsUnread reads None (to_come s) → ⊥))
+
+-- ---- what is answered
+
+-- What a call answers that reads the next item by the rules.
+pub record AnswersNext {A : Type 0} (passes_over total : Bool) (wrong_forms : WrongForms)
+    (reads : Raw → A → Type 0) (asks : Raw → Type 0) (s t : Items) (result : Result (Option A) Refusal)
+    : Type 0 where
+  -- The bytes to come begin with an acceptable item that keeps the rules, it is read so, and it alone is
+  -- taken; or there are none.
+  pub found : IfOk result (GivesNext reads s t)
+  -- At the end of the slice nothing is refused; and nothing is taken of what is refused.
+  pub at_end : OnErr result (to_come s ≢ [])
+  pub stays : OnErr result (t ≡ s)
+  -- Each such item is read, unless memory runs out.
+  pub accepted : (x : A) (rest : List ℕ) → BeginsByRules s.terms reads (to_come s) x rest
+      → IfErr result IsMemory
+  -- An item that the type reads is refused by its first departure alone.
+  pub departs : (x : A) (rest : List ℕ)
+      → (front : BeginsAs all_formats max_depth reads (to_come s) x rest)
+      → IfErr result (ReportsDepartureFrom s.taken s.terms front.item)
+  -- A departure that is reported is the first of the acceptable item that is to come.
+  pub departed : IfErr result (IfDeparts (BeginsDeparting s))
+  -- The acceptable item that is to come is the one that is read; and where the type reads every item, it is
+  -- refused by its first departure alone.
+  pub every : (item : Raw) (rest : List ℕ) → Begins max_depth (to_come s) item rest
+      → MatchResult result (λ o. IfSome o (reads item))
+      (λ e. WhereTotal total (ReportsDepartureFrom s.taken s.terms item e))
+  -- Another refusal is, where the type reads every item, the first that the bytes to come allow of one, or
+  -- memory ran out; and a wrong form is reported as the type may report it.
+  pub first : IfErr result (IfUnread (λ e. WhereTotal total (IsOutOfMemory e
+      ⊎ ReportsFirst (bounds_of max_depth (source_of s)) (to_come s) e)))
+  pub form : IfErr result (IfUnread (MayReport wrong_forms all_formats (source_of s)))
+  -- A type that passes over an item that it doesn't read refuses it by a message, and other bytes by their
+  -- first refusal.
+  pub fault : IfErr result (IfUnread (λ e. WhereTotal passes_over
+      (IsOutOfMemory e ⊎ RefusesNext reads s e)))
+  -- Memory runs out only for an item for which the type may ask for it, or where each value may be a key
+  -- once and some map in the item has a pair.
+  pub memory : (x : A) (rest : List ℕ)
+      → (front : BeginsAs all_formats max_depth reads (to_come s) x rest)
+      → IfErr result (IfUnread (λ e. asks front.item
+      ⊎ ((is_unique s.terms.rules.keys ≡ true) × HasPair front.item)))
 
 -- ---- one item
 

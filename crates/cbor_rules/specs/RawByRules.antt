@@ -1,6 +1,6 @@
 -- Taking the bytes of an item that keeps rules: what of a source a call takes.
 use Rattle.std.specs.Prelude.{◌≡◌, ◌⊎◌, ℕ, ◌^◌, ◌<◌, Bool, List, [], ◌++◌, length, Option, Some, None}
-use Rattle.std.specs.Prelude.{IfSome}
+use Rattle.std.specs.Prelude.{Result, IfErr, IfOk, IfSome, MatchResult}
 use Rattle.cbor_model.specs.Raw.{Raw}
 use Rattle.cbor_model.specs.RawReader.{Begins}
 use Rattle.cbor_model.specs.Spelling.{spell}
@@ -9,12 +9,13 @@ use Rattle.cbor_io.specs.declared.error.ErrorCode.{ErrorCode}
 use Rattle.cbor_io.specs.declared.error.ErrorCode.TheVariants.{Io}
 use Rattle.cbor_io.specs.declared.read_error.ReadErrorCode.{ReadErrorCode}
 use Rattle.cbor_read.specs.Source.{Input, Stays, TookKept}
-use Rattle.cbor_decode.specs.Gives.{ReportsIo}
+use Rattle.cbor_decode.specs.Gives.{Reports, ReportsIo}
 use Rattle.cbor_decode_as.specs.Takes.{ExcusedBy}
 use Rattle.cbor_value.specs.RawBytes.{raw_bytes}
 use Rattle.cbor_value.specs.declared.raw_value.RawValue.{RawValue}
 use Rattle.cbor_pushed.specs.ItemAtFront.{HasItem, IsUnfinished}
-use Rattle.cbor_raw.specs.Gathered.{IsGathered}
+use Rattle.cbor_raw.specs.Gathered.{GathersNone, IsGathered}
+use Rattle.cbor_rules.specs.Answers.{IfDeparts, IfUnread}
 use Rattle.cbor_rules.specs.NextItem.{departure_from}
 use Rattle.cbor_rules.specs.Rules.{Terms, Keeps}
 use Rattle.cbor_rules.specs.declared.answers.Departure.{Departure}
@@ -64,3 +65,21 @@ IsSourceFaultBy Device _ at = ⊥
 abbrev pub IsSourceFault : (ReadErrorCode → Bool) → Refusal → Type 0
 IsSourceFault refusals (Unread e) = IsSourceFaultBy (ReportsIo refusals) (code_of e) (offset_of e)
 IsSourceFault refusals (Departs d) = ⊥
+
+-- What a call answers that takes the bytes of the next item by the rules.
+pub record AnswersNextRaw (refusals : ReadErrorCode → Bool) (terms : Terms) (levels : ℕ) (s t : Input)
+    (result : Result (Option RawValue) Refusal) : Type 0 where
+  -- Exactly these bytes were taken, and they are one acceptable item that keeps the rules; or nothing is to
+  -- come, and nothing was taken.
+  pub found : IfOk result (GathersNext terms levels s t)
+  -- Of the acceptable item that is to come, the bytes are taken; or its first departure is told, or memory
+  -- ran out, or the source reported a fault.
+  pub every : (bs : List ℕ) (item : Raw) (rest : List ℕ) → Reports s bs → Begins levels bs item rest
+      → MatchResult result (IsItem item) (ReportsDepartureOrFault refusals s.offset terms item)
+  -- A departure is shown by the bytes that were taken.
+  pub departed : IfErr result (IfDeparts (ShowsDeparture terms levels s t))
+  -- Where another refusal comes no acceptable item is to come, but where memory ran out or the source
+  -- reported a fault.
+  pub unread : IfErr result (IfUnread (GathersNone refusals levels s t))
+  -- At the end of the input it is refused by a fault of the source alone.
+  pub at_end : Reports s [] → IfErr result (IsSourceFault refusals)

@@ -1,21 +1,23 @@
 -- Reading the items of any source by rules: where a stream stands, and what a call answers.
 use Rattle.std.specs.Prelude.{◌≡◌, ◌⊎◌, ℕ, Bool, true, false, List, []}
-use Rattle.std.specs.Prelude.{Option, Some, None, IfSome}
+use Rattle.std.specs.Prelude.{Option, Some, None, Result, Err, IfErr, IfOk, IfSome, MatchResult}
 use Rattle.cbor_model.specs.Acceptable.{max_depth}
 use Rattle.cbor_model.specs.Formats.{all_formats}
 use Rattle.cbor_model.specs.Raw.{Raw}
+use Rattle.cbor_model.specs.RawReader.{Begins}
 use Rattle.cbor_model.specs.Spelling.{spell}
 use Rattle.cbor_io.specs.declared.error.Error.{Error}
 use Rattle.cbor_io.specs.declared.read_error.ReadErrorCode.{ReadErrorCode}
 use Rattle.cbor_io.specs.Error.{IsFurther, IsOutOfMemory, code_of, offset_of}
 use Rattle.cbor_read.specs.Source.{Input, Stays, start_of_slice}
-use Rattle.cbor_decode.specs.Gives.{ReportsIo}
-use Rattle.cbor_decode_as.specs.Takes.{ExcusedBy, WhereTotal}
+use Rattle.cbor_decode.specs.Gives.{Reports, ReportsIo}
+use Rattle.cbor_decode_as.specs.Takes.{ExcusedBy}
 use Rattle.cbor_de.specs.Forms.{MayReport, WrongForms}
-use Rattle.cbor_de.specs.Whole.{RefusesUnread}
+use Rattle.cbor_de.specs.Whole.{Answers}
 use Rattle.cbor_raw.specs.Gathered.{GathersNone}
+use Rattle.cbor_rules.specs.Answers.{IfDeparts, IfUnread}
 use Rattle.cbor_rules.specs.NextItem.{departure_from}
-use Rattle.cbor_rules.specs.RawByRules.{GathersByRules}
+use Rattle.cbor_rules.specs.RawByRules.{GathersByRules, IsSourceFault, ShowsDeparture}
 use Rattle.cbor_rules.specs.Rules.{Terms, under}
 use Rattle.cbor_rules.specs.declared.answers.Refusal.{Refusal}
 use Rattle.cbor_rules.specs.declared.answers.Refusal.TheVariants.{Unread, Departs}
@@ -69,16 +71,14 @@ IsReadAs reads item (Some x) = reads item x
 -- ---- what is refused
 
 -- A type refuses an item that begins at this offset: by the error that reading the item's bytes alone
--- may return, so much further into the input.
-pub record RefusesAs {A : Type 0} (reads : Raw → A → Type 0) (total passes_over : Bool)
-    (asks : Raw → Type 0) (forms : WrongForms) (start : ℕ) (item : Raw) (e : Error) : Type 0 where
+-- answers, so much further into the input.
+pub record RefusesAs {A : Type 0} (passes_over total reports_faults : Bool) (wrong_forms : WrongForms)
+    (reads : Raw → A → Type 0) (asks : Raw → Type 0) (start : ℕ) (item : Raw) (e : Error) : Type 0 where
   pub alone : Error
   pub further : IsFurther start alone e
-  pub unread : (x : A) → reads item x → IsOutOfMemory alone × asks item
-  pub every : WhereTotal total (IsOutOfMemory alone)
-  pub fault : WhereTotal passes_over
-      (IsOutOfMemory alone ⊎ RefusesUnread reads None (spell item) alone)
-  pub form : MayReport forms all_formats (start_of_slice (spell item) None) alone
+  pub answers : Answers passes_over total reports_faults reads asks IsOutOfMemory None (spell item)
+      (Err alone)
+  pub form : MayReport wrong_forms all_formats (start_of_slice (spell item) None) alone
 
 -- A refusal of an item that begins at this offset: its first departure, or by its type; or memory ran
 -- out, or the source reported a fault.
@@ -102,7 +102,24 @@ abbrev pub RefusesItemOrNone : (ReadErrorCode → Bool) → (ℕ → Raw → Err
 RefusesItemOrNone refusals refuses terms s t e =
     GathersNone refusals max_depth s t e ⊎ RefusesItem refuses terms s t e
 
--- the same, of a stream
-abbrev pub StreamRefuses : (ReadErrorCode → Bool) → (ℕ → Raw → Error → Type 0) → Stream → Stream
-    → Error → Type 0
-StreamRefuses refusals refuses s t e = RefusesItemOrNone refusals refuses s.terms s.input t.input e
+-- ---- what is answered
+
+-- What a call answers that takes the next item of a source by the rules, and reads it; refuses is how its
+-- type refuses an item.
+pub record AnswersNextItem {A : Type 0} (refusals : ReadErrorCode → Bool) (reads : Raw → A → Type 0)
+    (refuses : ℕ → Raw → Error → Type 0) (terms : Terms) (s t : Input) (result : Result (Option A) Refusal)
+    : Type 0 where
+  -- An acceptable item that keeps the rules was to come, it is read so, and it alone is taken; or nothing is
+  -- to come.
+  pub found : IfOk result (TakesNext reads terms s t)
+  -- The acceptable item that is to come is the one that is read; or its first departure is told, the type
+  -- refuses it, memory ran out, or the source reported a fault.
+  pub every : (bs : List ℕ) (item : Raw) (rest : List ℕ) → Reports s bs → Begins max_depth bs item rest
+      → MatchResult result (IsReadAs reads item) (AnswersItem refusals refuses terms s.offset item)
+  -- A departure is shown by the bytes that were taken.
+  pub departed : IfErr result (IfDeparts (ShowsDeparture terms max_depth s t))
+  -- Where another refusal comes no acceptable item is to come, memory ran out or the source reported a
+  -- fault; or the item was taken, which keeps the rules, and the type refuses it.
+  pub unread : IfErr result (IfUnread (RefusesItemOrNone refusals refuses terms s t))
+  -- At the end of the input it is refused by a fault of the source alone.
+  pub at_end : Reports s [] → IfErr result (IsSourceFault refusals)

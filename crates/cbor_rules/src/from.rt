@@ -1,21 +1,8 @@
 //! Reading a whole input by rules.
 
-ghost use Rattle.std.specs.Prelude.{◌≡◌, ◌⊎◌, true, IfErr, IfOk, MatchResult, None};
-ghost use Rattle.cbor_model.specs.Allowed.{limits_of};
-ghost use Rattle.cbor_model.specs.Formats.{all_formats};
-ghost use Rattle.cbor_model.specs.Laws.{SpellsValue};
-ghost use Rattle.cbor_model.specs.Plain.{Val};
-ghost use Rattle.cbor_model.specs.Readable.{SpellsAs};
-ghost use Rattle.cbor_io.specs.Error.{IsOutOfMemory};
-ghost use Rattle.cbor_read.specs.Source.{start_of_slice};
-ghost use Rattle.cbor_decode.specs.FirstRefusal.{ReportsFirst};
-ghost use Rattle.cbor_decode_as.specs.Takes.{WhereTotal};
-ghost use Rattle.cbor_de.specs.Forms.{MayReport};
-ghost use Rattle.cbor_de.specs.Whole.{RefusesUnread, from_slice_asks, from_slice_context};
-ghost use Rattle.cbor_rules.specs.Answers.{IfDeparts, IfUnread, IsMemory, SpellsByRules};
-ghost use Rattle.cbor_rules.specs.Answers.{SpellsDeparting, ReportsItsDeparture};
-ghost use Rattle.cbor_rules.specs.Rules.{is_unique, only, under};
-ghost use Rattle.cbor_rules.specs.Unique.{HasPair};
+ghost use Rattle.cbor_de.specs.Whole.{from_slice_asks, from_slice_context};
+ghost use Rattle.cbor_rules.specs.Answers.{AnswersByRules};
+ghost use Rattle.cbor_rules.specs.Rules.{only, under};
 
 use crate::answers::Refusal;
 use crate::settings::Rules;
@@ -60,38 +47,8 @@ pub fn from_slice_with<'a, T: Deserialize<'a, SliceRead<'a>>>(
     slice: &'a [u8],
     rules: Rules,
 ) -> Result<T, Refusal>
-    // The bytes encode an acceptable item that keeps the rules, and it is read so.
-    ensures found { IfOk result (SpellsByRules (only rules) (T.reads from_slice_context) slice.now) }
-    // Each such item is read, unless memory runs out.
-    ensures accepted { (x : T) → SpellsByRules (only rules) (T.reads from_slice_context) slice.now x
-        → IfErr result IsMemory }
-    // An item that `from_slice` reads so is refused by its first departure alone.
-    ensures departs { (x : T)
-        → (spelt : SpellsAs all_formats (T.reads from_slice_context) slice.now x)
-        → IfErr result (ReportsItsDeparture (only rules) spelt.item) }
-    // The acceptable item that the bytes encode is the one that is read; and where the type reads
-    // every item, it is refused by its first departure alone.
-    ensures every { (v : Val) → (spelt : SpellsValue slice.now v)
-        → MatchResult result (T.reads from_slice_context spelt.item)
-        (λ e. WhereTotal T.total (ReportsItsDeparture (only rules) spelt.item e)) }
-    // A departure that is reported is the first of the acceptable item that the bytes encode.
-    ensures departed { IfErr result (IfDeparts (SpellsDeparting (only rules) slice.now)) }
-    // Another refusal is that of `from_slice`: where the type reads every item, the first that the
-    // bytes allow, or memory ran out; and a wrong form is reported as the type may report it.
-    ensures first { IfErr result (IfUnread (λ e. WhereTotal T.total
-        (IsOutOfMemory e ⊎ ReportsFirst (limits_of None) slice.now e))) }
-    ensures form { IfErr result
-        (IfUnread (MayReport T.wrong_forms all_formats (start_of_slice slice.now None))) }
-    // A type that passes over an item that it doesn't read refuses it by a message, and other bytes
-    // by their first refusal.
-    ensures fault { IfErr result (IfUnread (λ e. WhereTotal T.passes_over
-        (IsOutOfMemory e ⊎ RefusesUnread (T.reads from_slice_context) None slice.now e))) }
-    // Memory runs out only for an item for which the type may ask for it, or where each value may
-    // be a key once and some map in the item has a pair.
-    ensures memory { (x : T)
-        → (spelt : SpellsAs all_formats (T.reads from_slice_context) slice.now x)
-        → IfErr result (IfUnread (λ e. T.asks_memory from_slice_asks spelt.item
-        ⊎ ((is_unique rules.keys ≡ true) × HasPair spelt.item))) }
+    ensures answers { AnswersByRules T.passes_over T.total T.reports_faults T.wrong_forms
+        (T.reads from_slice_context) (T.asks_memory from_slice_asks) (only rules) slice.now result }
 {
     from_slice_with_tags(alloc, slice, rules, &[])
 }
@@ -112,40 +69,8 @@ pub fn from_slice_with_tags<'a, T: Deserialize<'a, SliceRead<'a>>>(
     rules: Rules,
     tags: &[u64],
 ) -> Result<T, Refusal>
-    // The bytes encode an acceptable item that keeps the rules, and it is read so.
-    ensures found { IfOk result
-        (SpellsByRules (under rules tags.now) (T.reads from_slice_context) slice.now) }
-    // Each such item is read, unless memory runs out.
-    ensures accepted { (x : T)
-        → SpellsByRules (under rules tags.now) (T.reads from_slice_context) slice.now x
-        → IfErr result IsMemory }
-    // An item that `from_slice` reads so is refused by its first departure alone.
-    ensures departs { (x : T)
-        → (spelt : SpellsAs all_formats (T.reads from_slice_context) slice.now x)
-        → IfErr result (ReportsItsDeparture (under rules tags.now) spelt.item) }
-    // The acceptable item that the bytes encode is the one that is read; and where the type reads
-    // every item, it is refused by its first departure alone.
-    ensures every { (v : Val) → (spelt : SpellsValue slice.now v)
-        → MatchResult result (T.reads from_slice_context spelt.item)
-        (λ e. WhereTotal T.total (ReportsItsDeparture (under rules tags.now) spelt.item e)) }
-    // A departure that is reported is the first of the acceptable item that the bytes encode.
-    ensures departed { IfErr result (IfDeparts (SpellsDeparting (under rules tags.now) slice.now)) }
-    // Another refusal is that of `from_slice`: where the type reads every item, the first that the
-    // bytes allow, or memory ran out; and a wrong form is reported as the type may report it.
-    ensures first { IfErr result (IfUnread (λ e. WhereTotal T.total
-        (IsOutOfMemory e ⊎ ReportsFirst (limits_of None) slice.now e))) }
-    ensures form { IfErr result
-        (IfUnread (MayReport T.wrong_forms all_formats (start_of_slice slice.now None))) }
-    // A type that passes over an item that it doesn't read refuses it by a message, and other bytes
-    // by their first refusal.
-    ensures fault { IfErr result (IfUnread (λ e. WhereTotal T.passes_over
-        (IsOutOfMemory e ⊎ RefusesUnread (T.reads from_slice_context) None slice.now e))) }
-    // Memory runs out only for an item for which the type may ask for it, or where each value may
-    // be a key once and some map in the item has a pair.
-    ensures memory { (x : T)
-        → (spelt : SpellsAs all_formats (T.reads from_slice_context) slice.now x)
-        → IfErr result (IfUnread (λ e. T.asks_memory from_slice_asks spelt.item
-        ⊎ ((is_unique rules.keys ≡ true) × HasPair spelt.item))) }
+    ensures answers { AnswersByRules T.passes_over T.total T.reports_faults T.wrong_forms
+        (T.reads from_slice_context) (T.asks_memory from_slice_asks) (under rules tags.now) slice.now result }
 {
     let value = from_slice::<T>(alloc, slice)?;
     match first_departure(alloc, rules, tags, slice)? {

@@ -1,7 +1,6 @@
 //! Reading items by rules that stand one after the other, or that other bytes follow.
 
-ghost use Rattle.std.specs.Prelude.{◌≡◌, ◌≢◌, ◌⊎◌, ◌≤◌, ℕ, List, [], length, true};
-ghost use Rattle.std.specs.Prelude.{IfErr, IfOk, IfSome, MatchResult, OnErr};
+ghost use Rattle.std.specs.Prelude.{◌≡◌, ◌≤◌, length};
 
 use crate::answers::{Departure, Refusal};
 use crate::front::front;
@@ -38,23 +37,9 @@ pub struct RuledItems<'a, 't> {
 }
 
 impl<'a, 't> RuledItems<'a, 't> {
-    ghost use Rattle.cbor_model.specs.Acceptable.{max_depth};
-    ghost use Rattle.cbor_model.specs.Formats.{all_formats};
-    ghost use Rattle.cbor_model.specs.Raw.{Raw};
-    ghost use Rattle.cbor_model.specs.RawReader.{Begins};
-    ghost use Rattle.cbor_io.specs.Error.{IsOutOfMemory};
-    ghost use Rattle.cbor_decode.specs.FirstRefusal.{ReportsFirst};
-    ghost use Rattle.cbor_decode_as.specs.Takes.{WhereTotal};
-    ghost use Rattle.cbor_de.specs.FirstOfItem.{bounds_of};
-    ghost use Rattle.cbor_de.specs.Forms.{MayReport};
-    ghost use Rattle.cbor_de.specs.ItemTaken.{BeginsAs};
     ghost use Rattle.cbor_de.specs.Whole.{from_slice_asks, from_slice_context};
-    ghost use Rattle.cbor_rules.specs.Answers.{IfDeparts, IfUnread, IsMemory};
-    ghost use Rattle.cbor_rules.specs.NextItem.{begun, source_of, standing, to_come};
-    ghost use Rattle.cbor_rules.specs.NextItem.{BeginsByRules, BeginsDeparting, GivesNext};
-    ghost use Rattle.cbor_rules.specs.NextItem.{RefusesNext, ReportsDepartureFrom};
-    ghost use Rattle.cbor_rules.specs.Rules.{is_unique, only, under};
-    ghost use Rattle.cbor_rules.specs.Unique.{HasPair};
+    ghost use Rattle.cbor_rules.specs.NextItem.{AnswersNext, begun, standing};
+    ghost use Rattle.cbor_rules.specs.Rules.{only, under};
 
     /// The items of this slice, none of them taken, by these rules.
     pub fn new(alloc: Global, slice: &'a [u8], rules: Rules) -> RuledItems<'a, 't>
@@ -113,51 +98,9 @@ impl<'a, 't> RuledItems<'a, 't> {
     /// assert_eq!(rt; items.byte_offset(), 3);
     /// ```
     pub fn next_item<T: Deserialize<'a, SliceRead<'a>>>(&mut self) -> Result<Option<T>, Refusal>
-        // The bytes to come begin with an acceptable item that keeps the rules, it is read so, and
-        // it alone is taken; or there are none.
-        ensures found { IfOk result
-            (GivesNext (T.reads from_slice_context) (standing self.old) (standing self.new)) }
-        // At the end of the slice nothing is refused; and nothing is taken of what is refused.
-        ensures at_end { OnErr result (to_come (standing self.old) ≢ []) }
-        ensures stays { OnErr result (standing self.new ≡ standing self.old) }
-        // Each such item is read, unless memory runs out.
-        ensures accepted { (x : T) (rest : List ℕ)
-            → BeginsByRules (standing self.old).terms (T.reads from_slice_context)
-            (to_come (standing self.old)) x rest
-            → IfErr result IsMemory }
-        // An item that the type reads is refused by its first departure alone.
-        ensures departs { (x : T) (rest : List ℕ)
-            → (front : BeginsAs all_formats max_depth (T.reads from_slice_context)
-            (to_come (standing self.old)) x rest)
-            → IfErr result (ReportsDepartureFrom (standing self.old).taken
-            (standing self.old).terms front.item) }
-        // A departure that is reported is the first of the acceptable item that is to come.
-        ensures departed { IfErr result (IfDeparts (BeginsDeparting (standing self.old))) }
-        // The acceptable item that is to come is the one that is read; and where the type reads
-        // every item, it is refused by its first departure alone.
-        ensures every { (item : Raw) (rest : List ℕ)
-            → Begins max_depth (to_come (standing self.old)) item rest
-            → MatchResult result (λ o. IfSome o (T.reads from_slice_context item))
-            (λ e. WhereTotal T.total (ReportsDepartureFrom (standing self.old).taken
-            (standing self.old).terms item e)) }
-        // Another refusal is, where the type reads every item, the first that the bytes to come
-        // allow of one, or memory ran out; and a wrong form is reported as the type may report it.
-        ensures first { IfErr result (IfUnread (λ e. WhereTotal T.total (IsOutOfMemory e
-            ⊎ ReportsFirst (bounds_of max_depth (source_of (standing self.old)))
-            (to_come (standing self.old)) e))) }
-        ensures form { IfErr result (IfUnread
-            (MayReport T.wrong_forms all_formats (source_of (standing self.old)))) }
-        // A type that passes over an item that it doesn't read refuses it by a message, and other
-        // bytes by their first refusal.
-        ensures fault { IfErr result (IfUnread (λ e. WhereTotal T.passes_over (IsOutOfMemory e
-            ⊎ RefusesNext (T.reads from_slice_context) (standing self.old) e))) }
-        // Memory runs out only for an item for which the type may ask for it, or where each value
-        // may be a key once and some map in the item has a pair.
-        ensures memory { (x : T) (rest : List ℕ)
-            → (front : BeginsAs all_formats max_depth (T.reads from_slice_context)
-            (to_come (standing self.old)) x rest)
-            → IfErr result (IfUnread (λ e. T.asks_memory from_slice_asks front.item
-            ⊎ ((is_unique (standing self.old).terms.rules.keys ≡ true) × HasPair front.item))) }
+        ensures answers { AnswersNext T.passes_over T.total T.wrong_forms
+            (T.reads from_slice_context) (T.asks_memory from_slice_asks) (standing self.old)
+            (standing self.new) result }
     {
         if self.taken == self.slice.len() {
             return Ok(None);

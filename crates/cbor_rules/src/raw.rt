@@ -1,19 +1,15 @@
 //! Taking the bytes of an item that keeps rules, which are looked at while they come.
 
-ghost use Rattle.std.specs.Prelude.{◌≡◌, ◌+◌, ◌^◌, ◌<◌, ◌++◌, ℕ, List, [], length, None, Some};
-ghost use Rattle.std.specs.Prelude.{IfErr, IfOk, MatchResult, OnOk};
+ghost use Rattle.std.specs.Prelude.{◌≡◌, ◌+◌, ◌^◌, ◌<◌, ◌++◌, List, length, None, Some};
+ghost use Rattle.std.specs.Prelude.{ℕ, IfErr, IfOk, OnOk};
 ghost use Rattle.cbor_model.specs.Raw.{Raw, IsWellFormed};
-ghost use Rattle.cbor_model.specs.RawReader.{Begins};
 ghost use Rattle.cbor_model.specs.Spelling.{spell};
 ghost use Rattle.cbor_io.specs.Error.{IsOutOfMemory};
 ghost use Rattle.cbor_decode.specs.Decoder.{SameSettings};
-ghost use Rattle.cbor_decode.specs.Gives.{Reports};
 ghost use Rattle.cbor_raw.specs.Gathered.{GathersNone};
-ghost use Rattle.cbor_value.specs.RawBytes.{raw_bytes};
 ghost use Rattle.cbor_rules.specs.Answers.{IfDeparts, IfUnread};
 ghost use Rattle.cbor_rules.specs.NextItem.{departure_from};
-ghost use Rattle.cbor_rules.specs.RawByRules.{GathersByRules, GathersNext, IsItem, IsSourceFault};
-ghost use Rattle.cbor_rules.specs.RawByRules.{ReportsDepartureOrFault, ShowsDeparture};
+ghost use Rattle.cbor_rules.specs.RawByRules.{AnswersNextRaw, GathersByRules, ShowsDeparture};
 ghost use Rattle.cbor_rules.specs.Rules.{first_departure, only, under};
 
 use crate::answers::{Departure, Refusal};
@@ -60,26 +56,8 @@ pub fn next_raw_item<R: Source>(
     de: &mut Deserializer<R>,
     rules: Rules,
 ) -> Result<Option<RawValue>, Refusal>
-    // Exactly these bytes were taken, and they are one acceptable item that keeps the rules; or
-    // nothing is to come, and nothing was taken.
-    ensures found { IfOk result (GathersNext (only rules) de.old.decoder.levels
-        (R.source de.old.decoder.source) (R.source de.new.decoder.source)) }
-    // Of the acceptable item that is to come, the bytes are taken; or its first departure is told,
-    // or memory ran out, or the source reported a fault.
-    ensures every { (bs : List ℕ) (item : Raw) (rest : List ℕ)
-        → Reports (R.source de.old.decoder.source) bs → Begins de.old.decoder.levels bs item rest
-        → MatchResult result (IsItem item) (ReportsDepartureOrFault R.refusals
-        (R.source de.old.decoder.source).offset (only rules) item) }
-    // A departure is shown by the bytes that were taken.
-    ensures departed { IfErr result (IfDeparts (ShowsDeparture (only rules) de.old.decoder.levels
-        (R.source de.old.decoder.source) (R.source de.new.decoder.source))) }
-    // Where another refusal comes no acceptable item is to come, but where memory ran out or the
-    // source reported a fault.
-    ensures unread { IfErr result (IfUnread (GathersNone R.refusals de.old.decoder.levels
-        (R.source de.old.decoder.source) (R.source de.new.decoder.source))) }
-    // At the end of the input it is refused by a fault of the source alone.
-    ensures at_end { Reports (R.source de.old.decoder.source) []
-        → IfErr result (IsSourceFault R.refusals) }
+    ensures answers { AnswersNextRaw R.refusals (only rules) de.old.decoder.levels
+        (R.source de.old.decoder.source) (R.source de.new.decoder.source) result }
     ensures settings { SameSettings de.old.decoder de.new.decoder }
 {
     next_raw_item_with_tags(de, rules, &[])
@@ -102,19 +80,8 @@ pub fn next_raw_item_with_tags<R: Source>(
     rules: Rules,
     tags: &[u64],
 ) -> Result<Option<RawValue>, Refusal>
-    ensures found { IfOk result (GathersNext (under rules tags.now) de.old.decoder.levels
-        (R.source de.old.decoder.source) (R.source de.new.decoder.source)) }
-    ensures every { (bs : List ℕ) (item : Raw) (rest : List ℕ)
-        → Reports (R.source de.old.decoder.source) bs → Begins de.old.decoder.levels bs item rest
-        → MatchResult result (IsItem item) (ReportsDepartureOrFault R.refusals
-        (R.source de.old.decoder.source).offset (under rules tags.now) item) }
-    ensures departed { IfErr result (IfDeparts (ShowsDeparture (under rules tags.now)
-        de.old.decoder.levels (R.source de.old.decoder.source)
-        (R.source de.new.decoder.source))) }
-    ensures unread { IfErr result (IfUnread (GathersNone R.refusals de.old.decoder.levels
-        (R.source de.old.decoder.source) (R.source de.new.decoder.source))) }
-    ensures at_end { Reports (R.source de.old.decoder.source) []
-        → IfErr result (IsSourceFault R.refusals) }
+    ensures answers { AnswersNextRaw R.refusals (under rules tags.now) de.old.decoder.levels
+        (R.source de.old.decoder.source) (R.source de.new.decoder.source) result }
     ensures settings { SameSettings de.old.decoder de.new.decoder }
 {
     match steps::peek(de) {

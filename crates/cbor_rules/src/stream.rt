@@ -42,16 +42,11 @@ pub struct RuledStream<'t, R> {
 }
 
 impl<'t, R: Source> RuledStream<'t, R> {
-    ghost use Rattle.std.specs.Prelude.{ℕ, List, [], false, true, IfErr, IfOk, MatchResult};
-    ghost use Rattle.cbor_model.specs.Raw.{Raw};
-    ghost use Rattle.cbor_model.specs.RawReader.{Begins};
-    ghost use Rattle.cbor_decode.specs.Gives.{Reports};
+    ghost use Rattle.std.specs.Prelude.{false, true, IfErr, IfOk};
     ghost use Rattle.cbor_de.specs.Whole.{from_reader_asks, from_reader_context};
-    ghost use Rattle.cbor_rules.specs.Answers.{IfDeparts, IfUnread};
-    ghost use Rattle.cbor_rules.specs.RawByRules.{IsSourceFault, ShowsDeparture};
     ghost use Rattle.cbor_rules.specs.Rules.{only, under};
-    ghost use Rattle.cbor_rules.specs.Streams.{AnswersItem, IsReadAs, RefusesAs, StreamGives};
-    ghost use Rattle.cbor_rules.specs.Streams.{StreamRefuses, new_stream, stream_at};
+    ghost use Rattle.cbor_rules.specs.Streams.{AnswersNextItem, RefusesAs, StreamGives};
+    ghost use Rattle.cbor_rules.specs.Streams.{new_stream, stream_at};
 
     /// Reads the items of this source by these rules.
     pub fn new(alloc: Global, source: R, rules: Rules) -> RuledStream<'t, R>
@@ -94,28 +89,13 @@ impl<'t, R: Source> RuledStream<'t, R> {
         // or nothing is to come, or an item was refused.
         ensures found { IfOk result (StreamGives (T.reads from_reader_context)
             (stream_at R.source self.old) (stream_at R.source self.new)) }
-        // The acceptable item that is to come is the one that is read; or its first departure is
-        // told, the type refuses it, memory ran out, or the source reported a fault.
-        ensures every { (stream_at R.source self.old).ended ≡ false
-            → (bs : List ℕ) (item : Raw) (rest : List ℕ)
-            → Reports (stream_at R.source self.old).input bs → Begins max_depth bs item rest
-            → MatchResult result (IsReadAs (T.reads from_reader_context) item)
-            (AnswersItem R.refusals (RefusesAs (T.reads from_reader_context) T.total T.passes_over
-            (T.asks_memory from_reader_asks) T.wrong_forms) (stream_at R.source self.old).terms
-            (stream_at R.source self.old).input.offset item) }
-        // A departure is shown by the bytes that were taken.
-        ensures departed { IfErr result (IfDeparts (ShowsDeparture
-            (stream_at R.source self.old).terms max_depth (stream_at R.source self.old).input
-            (stream_at R.source self.new).input)) }
-        // Where another refusal comes no acceptable item is to come, memory ran out or the source
-        // reported a fault; or the item was taken, which keeps the rules, and the type refuses it.
-        ensures unread { IfErr result (IfUnread (StreamRefuses R.refusals
-            (RefusesAs (T.reads from_reader_context) T.total T.passes_over
-            (T.asks_memory from_reader_asks) T.wrong_forms)
-            (stream_at R.source self.old) (stream_at R.source self.new))) }
-        // At the end of the input it is refused by a fault of the source alone.
-        ensures at_end { Reports (stream_at R.source self.old).input []
-            → IfErr result (IsSourceFault R.refusals) }
+        // Where none was refused before, it is read or refused as what is to come is.
+        ensures answers { (stream_at R.source self.old).ended ≡ false
+            → AnswersNextItem R.refusals (T.reads from_reader_context)
+            (RefusesAs T.passes_over T.total T.reports_faults T.wrong_forms
+            (T.reads from_reader_context) (T.asks_memory from_reader_asks))
+            (stream_at R.source self.old).terms (stream_at R.source self.old).input
+            (stream_at R.source self.new).input result }
         // The first refusal is the last.
         ensures going { IfErr result (λ e. (stream_at R.source self.old).ended ≡ false) }
         ensures ended { IfErr result (λ e. (stream_at R.source self.new).ended ≡ true) }

@@ -1,18 +1,15 @@
 //! Reading a whole input that is encoded canonically.
 
-ghost use Rattle.std.specs.Prelude.{◌≡◌, ◌⊎◌, IfErr, IfOk, MatchResult, None, take};
-ghost use Rattle.cbor_model.specs.Formats.{all_formats};
+ghost use Rattle.std.specs.Prelude.{◌≡◌, ◌⊎◌, IfErr, IfOk, take};
 ghost use Rattle.cbor_model.specs.Laws.{SpellsValue};
 ghost use Rattle.cbor_model.specs.Plain.{Val};
-ghost use Rattle.cbor_model.specs.Readable.{SpellsAs};
 ghost use Rattle.cbor_value.specs.View.{view};
 ghost use Rattle.cbor_io.specs.Error.{code_of, offset_of, IsOutOfMemory};
 ghost use Rattle.cbor_io.specs.declared.error.ErrorCode.TheVariants.{NotCanonical};
-ghost use Rattle.cbor_decode_as.specs.Takes.{WhereTotal};
-ghost use Rattle.cbor_de.specs.Whole.{RefusesUnread, from_slice_asks, from_slice_context};
-ghost use Rattle.cbor_strict.specs.Strict.{SpellsCanonically, SpellsCanonicallyAs};
-ghost use Rattle.cbor_strict.specs.StrictAnswers.{PassesNoDeparture, ReportsFirstStrictly};
-ghost use Rattle.cbor_strict.specs.StrictAnswers.{ReportsItsDeparture, DepartureOrForm};
+ghost use Rattle.cbor_de.specs.Whole.{from_slice_asks, from_slice_context};
+ghost use Rattle.cbor_strict.specs.Strict.{SpellsCanonically};
+ghost use Rattle.cbor_strict.specs.StrictAnswers.{AnswersStrictly, ReportsFirstStrictly};
+ghost use Rattle.cbor_strict.specs.StrictAnswers.{ReportsItsDeparture};
 
 use crate::walk::first_departure;
 use cbor_de::{Deserialize, from_slice};
@@ -75,37 +72,8 @@ pub fn from_slice_canonical_as<'a, T: Deserialize<'a, SliceRead<'a>>>(
     alloc: Global,
     slice: &'a [u8],
 ) -> Result<T>
-    // The bytes are the canonical encoding of an item, and it is read so.
-    ensures found { IfOk result (SpellsCanonicallyAs (T.reads from_slice_context) slice.now) }
-    // Each such item is read, unless memory runs out.
-    ensures accepted { (x : T)
-        → SpellsCanonicallyAs (T.reads from_slice_context) slice.now x
-        → IfErr result IsOutOfMemory }
-    // An item that `from_slice` reads so is refused by its first departure alone.
-    ensures departs { (x : T)
-        → (spelt : SpellsAs all_formats (T.reads from_slice_context) slice.now x)
-        → IfErr result (ReportsItsDeparture spelt.item) }
-    // The acceptable item that the bytes encode is the one that is read; and where the type reads
-    // every item, it is refused by its first departure alone.
-    ensures every { (v : Val) → (spelt : SpellsValue slice.now v)
-        → MatchResult result (T.reads from_slice_context spelt.item)
-        (λ e. WhereTotal T.total (ReportsItsDeparture spelt.item e)) }
-    // A refusal of it is the first that the bytes allow, or memory ran out.
-    ensures refused { IfErr result (λ e. WhereTotal T.total
-        (IsOutOfMemory e ⊎ ReportsFirstStrictly slice.now e)) }
-    // A type that passes over an item that it doesn't read refuses as `from_slice` does, unless it
-    // reports a departure.
-    ensures fault { IfErr result (λ e. WhereTotal T.passes_over ((code_of e ≡ NotCanonical)
-        ⊎ IsOutOfMemory e ⊎ RefusesUnread (T.reads from_slice_context) None slice.now e)) }
-    // Memory runs out only for an item for which the type may ask for it.
-    ensures memory { (x : T)
-        → (spelt : SpellsAs all_formats (T.reads from_slice_context) slice.now x)
-        → IfErr result (λ e. IsOutOfMemory e → T.asks_memory from_slice_asks spelt.item) }
-    // Of any type: no departure stands before what is reported.
-    ensures earliest { IfErr result (PassesNoDeparture slice.now) }
-    // Another wrong form is reported by a code, and at a place, that the type may report it by and
-    // at.
-    ensures form { IfErr result (DepartureOrForm T.wrong_forms slice.now) }
+    ensures answers { AnswersStrictly T.passes_over T.total T.reports_faults T.wrong_forms
+        (T.reads from_slice_context) (T.asks_memory from_slice_asks) slice.now result }
 {
     match from_slice::<T>(alloc, slice) {
         Ok(value) => match first_departure(slice) {

@@ -122,6 +122,7 @@ pub use Rattle.cbor_de.specs.FieldTypes
 pub use Rattle.cbor_described.specs.FieldLists
 pub use Rattle.cbor_convert.specs.Tagged
 pub use Rattle.cbor_convert.specs.Encoded
+pub use Rattle.cbor_convert.specs.ReadWritten
 pub use Rattle.cbor_io.specs.Compare
 pub use Rattle.cbor_tags.specs.Numbers
 pub use Rattle.cbor_tags.specs.Times

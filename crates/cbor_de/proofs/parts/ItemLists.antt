@@ -18,12 +18,12 @@ use Rattle.cbor_decode.specs.Heads.{remaining_of}
 use Rattle.cbor_decode.specs.declared.cursor.Remaining.{Remaining}
 use Rattle.cbor_decode.specs.declared.formats.Formats.{Formats}
 use Rattle.cbor_decode.proofs.facts.Steps.{step_map, step_then}
-use Rattle.cbor_decode_as.specs.Accesses.{items_at, IsNextItem, TakesMore, TakesNext, TakesPart, IsEnd}
+use Rattle.cbor_decode_as.specs.Accesses.{items_at, IsNext, IsNextItem, TakesMore, TakesNext, TakesPart, IsEnd}
 use Rattle.cbor_decode_as.specs.Collections.{IsHeadOf, TakesEndOf}
 use Rattle.cbor_decode_as.specs.Arrays.{AreNone, AsArray}
 use Rattle.cbor_decode_as.specs.Enums.{part_then, no_part}
 use Rattle.cbor_decode_as.specs.Takes.{TakesItem, IsRead, formats_of, raws}
-use Rattle.cbor_de.specs.ItemLists.{AreItems, AreNoItems, ReportsShort, TakesItems}
+use Rattle.cbor_de.specs.ItemLists.{AreItems, AreNoItems, MemoryForItem, NoneComes, ReportsShort, TakesItems}
 use Rattle.cbor_decode_as.proofs.facts.Arrays.{comes, item_next, item_refused, NoPart, part_refused}
 use Rattle.cbor_decode_as.proofs.facts.Arrays.{append, with_front, SoFar, is_done, goes_on, begins, rest_of, no_part_rest}
 use Rattle.cbor_decode_as.proofs.facts.Arrays.{NoItems, array_refused, end_lacks, end_step, loop_begins}
@@ -125,6 +125,19 @@ module _ {A : Type 0} (items : Formats → Raws → A → Type 0) (f g : Formats
   array_answer q h = array_here q (subst (λ (g : Formats). TakesItems allowed (formats_of g) (items g) inner all m t q) formats h)
 
 -- ---- too few items
+
+module _ {A : Type 0} (reads : Raw → A → Type 0) (f : model.Formats) (levels : ℕ) (r : Remaining) (s : Input) where
+  pub none_comes : (t : Input) (behind : Remaining) → Step s t (IsNext reads f levels (remaining_of r) (remaining_of behind) None) → NoneComes r s
+  none_comes t behind step bs reports = let one = step.reported bs reports in (one.rest, one.holds)
+
+  -- so no memory is asked for an item
+  pub none_asked : (asks : Raw → Type 0) (e : Error) → NoneComes r s → MemoryForItem asks f reads levels r s e
+  none_asked asks e none out bs reports x after rest next =
+      let one = none bs reports in
+      absurd (none_some after (ap (λ (p : Option reader.Remaining × List ℕ). p.0) (ok_is (None, one.0) (Some after, next.start) (sym one.1 ∙ next.next))))
+    where
+      none_some : (x : reader.Remaining) → None ≡ Some x → ⊥
+      none_some x e = absurd cc
 
 module _ (allowed : ReadErrorCode → Bool) (text : List ℕ) (r : Remaining) (s : Input) where
   -- it is told where none comes

@@ -1,5 +1,5 @@
 -- The fault that an error reports, if it reports one: of a part, of the item that it stops, and of a whole input.
-use Rattle.std.proofs.Common.{◌≡◌, ◌≢◌, ◌==◌, ◌+◌, inl, inr, ◌∙◌, ℕ, Bool, true, false, true≢false, cond, List, [], ◌∷◌, length, Option, Some, None, Result, Ok, Err, IfErr, refl, sym, ap, ap₂, subst}
+use Rattle.std.proofs.Common.{◌≡◌, ◌≢◌, ◌⊎◌, ◌==◌, ◌+◌, inl, inr, ◌∙◌, ℕ, Bool, true, false, true≢false, cond, List, [], ◌∷◌, length, Option, Some, None, Result, Ok, Err, IfErr, refl, sym, ap, ap₂, subst}
 use Rattle.std.specs.Prelude.{⊤}
 use Rattle.cbor_model.specs.Acceptable.{max_depth}
 use Rattle.cbor_model.specs.Allowed.{limits_of}
@@ -18,7 +18,7 @@ use Rattle.cbor_io.specs.declared.error.ErrorCode.TheVariants as code
 use Rattle.cbor_io.specs.declared.read_error.ReadErrorCode.{ReadErrorCode}
 use Rattle.cbor_read.specs.Source.{Input, Stays}
 use Rattle.cbor_decode.specs.FirstRefusal.{ReportsFirst}
-use Rattle.cbor_decode.specs.Gives.{Ends, FailsAs, FailsBy, IsMemoryOrFaultBy, Limits, limits, ReportsIo, Reports, Step, end_at, values, whole_at}
+use Rattle.cbor_decode.specs.Gives.{Ends, FailsAs, FailsBy, IsMemoryOrFault, IsMemoryOrFaultBy, Limits, limits, ReportsIo, Reports, Step, end_at, values, whole_at}
 use Rattle.cbor_decode.specs.declared.cursor.Remaining.{Remaining}
 use Rattle.cbor_decode.specs.declared.head.Head.{Head}
 use Rattle.cbor_decode.proofs.facts.FirstRefusal.{first_or_fault}
@@ -28,7 +28,7 @@ use Rattle.cbor_decode_as.specs.Nulls.{null_at}
 use Rattle.cbor_decode_as.specs.Takes.{FaultIfAny, IsMessage, ItemFault, ReportsFault, ReportsIfAny, ReportsItem, RefusesWhole, WhereTotal, any_item}
 use Rattle.cbor_decode_as.proofs.facts.Refusals.{always, formats_if_any, passes_reported, whole_if_any}
 use Rattle.cbor_de.specs.Calls.{and_reports, reports_any}
-use Rattle.cbor_de.specs.Whole.{IsOfBytes, ReportsOwn, WholeFault}
+use Rattle.cbor_de.specs.Whole.{IsOfInput, ReportsOwn, WholeFault}
 use Rattle.cbor_de.proofs.refusals.Faults.{fails_map, of_bytes, where_map}
 
 -- ---- one code
@@ -202,8 +202,9 @@ module _ (allowed : ReadErrorCode → Bool) (levels : ℕ) (s : Input) (e : Erro
   rest_of_whole t P step h =
       if_told_then allowed s e t P (λ l. end_at) (whole_at all_formats levels) (λ l bs mid d told p is. absurd (told.1 (more_follows mid d is))) step (reported_if_any allowed t e (λ l. end_at) h)
 
--- a code that reports a fault of the bytes alone
-reports : {A : Type 0} (D : Type 0) (k : ErrorCode) (end at : ℕ) (read : Result A Fault) → IsOfBytes k → FaultIfAny D k end at read → FailsBy D k end at read
+-- a code that reports a fault of the input alone
+reports : {A : Type 0} (D : Type 0) (k : ErrorCode) (end at : ℕ) (read : Result A Fault) → IsOfInput k → FaultIfAny D k end at read → FailsBy D k end at read
+reports D (code.Io fault) end at read is h = h
 reports D code.EofWhileParsingValue end at read is h = h
 reports D code.EofWhileParsingArray end at read is h = h
 reports D code.EofWhileParsingMap end at read is h = h
@@ -215,21 +216,22 @@ reports D code.RecursionLimitExceeded end at read is h = h
 reports D code.ScratchTooSmall end at read is h = h
 reports D k end at read is h = absurd is
 
-no_memory_or_fault : (k : ErrorCode) → IsOfBytes k → IsMemoryOrFaultBy k → ⊥
-no_memory_or_fault (code.Io e) is h = is
-no_memory_or_fault code.OutOfMemory is h = is
-no_memory_or_fault k is h = h
+-- that memory ran out isn't such a code: it was a fault of the device
+by_device : {A : Type 0} (D : Type 0) (k : ErrorCode) (end at : ℕ) (read : Result A Fault) → IsOfInput k → IsMemoryOrFaultBy k → FailsBy D k end at read → D
+by_device D (code.Io fault) end at read is other h = h.0
+by_device D code.OutOfMemory end at read is other h = absurd is
+by_device D k end at read is other h = absurd other
 
-module _ (allowed : ReadErrorCode → Bool) (reports_faults : Bool) (s : Input) (bs : List ℕ) (given : Reports s bs) (zero : s.offset ≡ 0) (fits : AreBytes bs) where
-  first_of_bytes : (e : Error) → WholeFault allowed max_depth s e → IsOfBytes (code_of e) → ReportsFirst (limits_of s.room) bs e
+module _ (allowed : ReadErrorCode → Bool) (reports_faults : Bool) (Excused : Error → Type 0) (excused : (e : Error) → ReportsIo allowed → IsMemoryOrFault e → Excused e) (s : Input) (bs : List ℕ) (given : Reports s bs) (zero : s.offset ≡ 0) (fits : AreBytes bs) where
+  first_of_bytes : (e : Error) → WholeFault allowed max_depth s e → IsOfInput (code_of e) → Excused e ⊎ ReportsFirst (limits_of s.room) bs e
   first_of_bytes e h is =
       let D = ReportsIo allowed in
       let met = of_bytes allowed s bs e zero (reports D (code_of e) (s.offset + length bs) (offset_of e) (whole_at all_formats max_depth (limits s bs) bs) is (h bs given)) in
       elim (first_or_fault s.room bs fits e (fails_map D ⊤ (λ d. tt) (code_of e) (length bs) (offset_of e) (read_value_in s.room bs) met)) [
-        | inl other ↦ absurd (no_memory_or_fault (code_of e) is other.0)
-        | inr first ↦ first
+        | inl other ↦ inl (excused e (by_device D (code_of e) (length bs) (offset_of e) (read_value_in s.room bs) is other.0 met) other)
+        | inr first ↦ inr first
       ]
 
-  pub own_first : {A : Type 0} (r : Result A Error) → IfErr r (λ e. WhereTotal reports_faults (WholeFault allowed max_depth s e)) → IfErr r (ReportsOwn reports_faults s.room bs)
+  pub own_first : {A : Type 0} (r : Result A Error) → IfErr r (λ e. WhereTotal reports_faults (WholeFault allowed max_depth s e)) → IfErr r (ReportsOwn reports_faults Excused s.room bs)
   own_first (Ok x) h = tt
   own_first (Err e) h = where_map reports_faults (first_of_bytes e) h

@@ -53,12 +53,12 @@ array_fits (raw.float w bits) x h = absurd h
 pub returns-in_err-records-clause-accepted : goal.returns-in_err-records-clause-accepted
 returns-in_err-records-clause-accepted c =
     let p = err_from_is_err_and c.from_residual.result c.from_residual.ensures.1 in
-    λ spelled. rw (p.1, p.2) (c.in_err-records.ensures.accepted spelled.0 spelled.1)
+    λ spelled. rw (p.1, p.2) (c.in_err-records.ensures.answers.accepted spelled.0 spelled.1 tt)
 
 pub returns-clause-accepted : goal.returns-clause-accepted
 returns-clause-accepted c = λ spelled.
-    let storable = array_fits (untagged c.in_ok-records.ensures.found.item) c.in_ok-records.records c.in_ok-records.ensures.found.means in
+    let storable = array_fits (untagged c.in_ok-records.ensures.answers.found.item) c.in_ok-records.records c.in_ok-records.ensures.answers.found.means in
     memory_alone (AreStorableDocuments (docs record_document c.in_ok-records.records.items)) c.to_vec.result storable c.to_vec.ensures.refused
 
 pub returns-clause-written : goal.returns-clause-written
-returns-clause-written c = IfOk-weaker c.to_vec.result _ _ (λ bytes h. (c.in_ok-records.records, c.in_ok-records.ensures.found, h)) c.to_vec.ensures.written
+returns-clause-written c = IfOk-weaker c.to_vec.result _ _ (λ bytes h. (c.in_ok-records.records, c.in_ok-records.ensures.answers.found, h)) c.to_vec.ensures.written

@@ -4,8 +4,6 @@ use Rattle.cbor_decode_as.specs.Takes.{context, formats_of}
 use Rattle.cbor_decode_as.proofs.facts.Readings.{read_gathered}
 use Rattle.cbor_de.proofs.refusals.Forms.{later_err}
 use Rattle.cbor_de.proofs.refusals.OwnFaults.{err_gathered}
-use Rattle.cbor_de.proofs.taken.Gathered.{memory_err_gathered}
-use Rattle.cbor_read.specs.Source.{asks_for}
 use Rattle.cbor_de.proofs.ready.read_gathered.Goals as goal
 
 pub returns-in-None-clause-read : goal.returns-in-None-clause-read
@@ -26,11 +24,3 @@ returns-in-None-clause-own_fault g c =
     let mid = c.gathered.new.de.decoder in
     let t = g.T.Readable in
     err_gathered (g.R.Source.source old.source) (g.R.Source.source mid.source) c.in-None.ensures.read g.R.Source.refusals old.levels mid.levels c.in-None.ensures.settings.levels (formats_of mid.formats) t.passes_over t.total t.reports_faults c.deserialize.result c.deserialize.ensures.fault c.deserialize.ensures.own_fault
-
-pub returns-in-None-clause-memory : goal.returns-in-None-clause-memory
-returns-in-None-clause-memory g c =
-    let old = c.args.de.now.decoder in
-    let mid = c.gathered.new.de.decoder in
-    let same = c.in-None.ensures.settings in
-    let lends = g.R.Source.lends in
-    memory_err_gathered _ _ c.in-None.ensures.read (g.T.Readable.asks_memory (asks_for g.R.Source.refusals lends)) old.formats mid.formats same.formats (λ (f : Formats). g.T.Readable.reads (context f lends)) old.levels mid.levels same.levels c.deserialize.result c.deserialize.ensures.memory

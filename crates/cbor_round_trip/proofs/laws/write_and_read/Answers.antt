@@ -1,9 +1,8 @@
-use Rattle.std.proofs.Common.{◌⊎◌, ℕ, List, IfErr, None, subst}
-use Rattle.cbor_model.specs.Allowed.{limits_of}
-use Rattle.cbor_io.specs.Error.{IsOutOfMemory}
-use Rattle.cbor_decode.specs.FirstRefusal.{ReportsFirst}
-use Rattle.cbor_decode_as.specs.Takes.{WhereTotal}
-use Rattle.cbor_round_trip.proofs.WriteThenRead.{first_by_memory, only_memory, same_again, spelled_again, reported_unstorable}
+use Rattle.std.proofs.Common.{false}
+use Rattle.cbor_model.specs.Document.{IsStorableDocument, document_bytes}
+use Rattle.cbor_de.specs.Whole.{from_reader_context}
+use Rattle.cbor_convert.proofs.ReadWritten.{read_again, unwritten}
+use Rattle.cbor_round_trip.proofs.WriteThenRead.{only_memory, same_again, spelled_again}
 use Rattle.cbor_round_trip.proofs.laws.write_and_read.Goals as goal
 
 pub returns-in_err-bytes-clause-answered : goal.returns-in_err-bytes-clause-answered
@@ -14,25 +13,25 @@ pub returns-clause-same : goal.returns-clause-same
 returns-clause-same g c = λ fit.
     let w = c.in_ok-bytes.ensures in
     same_again g.T.Serialize.document g.T.Readable.reads g.T.RoundTrip.law.fits g.T.RoundTrip.law.determined g.met.T.RoundTrip.back c.args.value.now c.in_ok-bytes.bytes.items w.storable w.in_range w.written
-    c.from_vec.result fit c.from_vec.ensures.found
+    c.from_vec.result fit c.from_vec.ensures.answers.found
 
 pub returns-clause-answered : goal.returns-clause-answered
 returns-clause-answered g c = λ fit stored nests.
     let w = c.in_ok-bytes.ensures in
-    c.from_vec.ensures.accepted c.args.value.now
-    (spelled_again g.T.Serialize.document g.T.Readable.reads g.T.RoundTrip.law.fits g.T.RoundTrip.law.determined g.met.T.RoundTrip.back c.args.value.now c.in_ok-bytes.bytes.items w.storable w.in_range w.written fit nests)
+    c.from_vec.ensures.answers.accepted c.args.value.now
+    (spelled_again g.T.Serialize.document g.T.Readable.reads g.T.RoundTrip.law.fits g.T.RoundTrip.law.determined g.met.T.RoundTrip.back c.args.value.now c.in_ok-bytes.bytes.items w.storable w.in_range w.written fit nests) tt
 
 -- ---- why it is refused
 
-pub returns-in_err-bytes-clause-refused : goal.returns-in_err-bytes-clause-refused
-returns-in_err-bytes-clause-refused g c = λ unstorable. reported_unstorable _ _ _ c.in_err-bytes.ensures.refused c.from_residual.ensures.1
+pub returns-in_err-bytes-clause-answers : goal.returns-in_err-bytes-clause-answers
+returns-in_err-bytes-clause-answers g c =
+    let t = g.T.Readable in
+    let d = g.T.Serialize.document c.args.value.now in
+    unwritten t.passes_over t.total t.reports_faults t.wrong_forms (t.reads from_reader_context) (IsStorableDocument d) (document_bytes d false false) _ _ c.in_err-bytes.ensures.refused c.from_residual.ensures.1
 
-pub returns-in_err-bytes-clause-first : goal.returns-in_err-bytes-clause-first
-returns-in_err-bytes-clause-first g c = λ stored. first_by_memory g.T.Readable.total _ _ (only_memory _ _ _ c.in_err-bytes.ensures.refused c.from_residual.ensures.1 stored)
-
-pub returns-clause-refused : goal.returns-clause-refused
-returns-clause-refused g c = λ unstorable. absurd (unstorable c.in_ok-bytes.ensures.storable)
-
-pub returns-clause-first : goal.returns-clause-first
-returns-clause-first g c = λ stored.
-    subst (λ (bs : List ℕ). IfErr c.from_vec.result (λ e. WhereTotal g.T.Readable.total (IsOutOfMemory e ⊎ ReportsFirst (limits_of None) bs e))) c.in_ok-bytes.ensures.written c.from_vec.ensures.first
+pub returns-clause-answers : goal.returns-clause-answers
+returns-clause-answers g c =
+    let t = g.T.Readable in
+    let d = g.T.Serialize.document c.args.value.now in
+    let w = c.in_ok-bytes.ensures in
+    read_again t.passes_over t.total t.reports_faults t.wrong_forms (t.reads from_reader_context) (IsStorableDocument d) (document_bytes d false false) c.from_vec.result _ c.in_ok-bytes.bytes.items w.written w.storable c.from_vec.ensures.answers c.from_vec.ensures.form

@@ -9,10 +9,10 @@ use Rattle.cbor_rules.proofs.canonical_key.is_canonical.Goals as goal
 pub returns-clause-itself : goal.returns-clause-itself
 returns-clause-itself c =
     let read = c.from_slice_canonical_as in
-    canonical_read _ c.args.key.now read.result c.is_ok.result c.are_bytes.ensures.short read.ensures.found c.is_ok.ensures.value
+    canonical_read _ c.args.key.now read.result c.is_ok.result c.are_bytes.ensures.short read.ensures.answers.found c.is_ok.ensures.value
 
 pub returns-clause-each : goal.returns-clause-each
 returns-clause-each c =
     let read = c.from_slice_canonical_as in
     canonical_taken (λ (r : Raw) (x : IgnoredAny). ⊤) (λ (r : Raw). AsksWhere from_slice_asks (HasChunks r)) c.args.key.now read.result c.is_ok.result (record {}) (λ r. tt) none_asked
-    (read.ensures.accepted (record {})) (read.ensures.memory (record {})) c.is_ok.ensures.value
+    (read.ensures.answers.accepted (record {})) (read.ensures.answers.memory (record {})) c.is_ok.ensures.value

@@ -24,7 +24,7 @@ returns-clause-read_back g c stored kept =
     let are = subst AreBytes c.deref.ensures.value c.are_bytes.ensures.bytes in
     let written = c.in_ok-bytes.ensures.dcbor in
     let numbers = c.reduced_has_reduced_numbers.ensures _ c.in_ok-bytes.ensures.reducible in
-    let every = rw c.deref-2.ensures.value at c.from_slice_with.ensures.every in
+    let every = rw c.deref-2.ensures.value at c.from_slice_with.ensures.answers.every in
     is_read _ bytes.items v short are c.in_ok-bytes.ensures.encoded
     (λ is. c.dcbor_written_is_accepted.ensures bytes.items v (omega (arith, short)) is (numbers.0, (numbers.1, written.written)))
     c.from_slice_with.result every
@@ -38,7 +38,7 @@ returns-clause-readable g c =
     let are = subst AreBytes c.deref.ensures.value c.are_bytes.ensures.bytes in
     let written = c.in_ok-bytes.ensures.dcbor in
     let numbers = c.reduced_has_reduced_numbers.ensures _ c.in_ok-bytes.ensures.reducible in
-    let found = rw c.deref-2.ensures.value at c.from_slice_with.ensures.found in
+    let found = rw c.deref-2.ensures.value at c.from_slice_with.ensures.answers.found in
     readable Dcbor canon d _ (c.in_ok-bytes.ensures.storable, c.in_ok-bytes.ensures.reducible) bytes.items short are written.written c.in_ok-bytes.ensures.encoded
     (λ is. c.dcbor_written_is_accepted.ensures bytes.items v (omega (arith, short)) is (numbers.0, (numbers.1, written.written)))
     c.from_slice_with.result found
@@ -52,8 +52,8 @@ returns-clause-refused g c =
     let are = subst AreBytes c.deref.ensures.value c.are_bytes.ensures.bytes in
     let written = c.in_ok-bytes.ensures.dcbor in
     let numbers = c.reduced_has_reduced_numbers.ensures _ c.in_ok-bytes.ensures.reducible in
-    let first = rw c.deref-2.ensures.value at c.from_slice_with.ensures.first in
-    let departed = rw c.deref-2.ensures.value at c.from_slice_with.ensures.departed in
+    let first = rw c.deref-2.ensures.value at c.from_slice_with.ensures.answers.first in
+    let departed = rw c.deref-2.ensures.value at c.from_slice_with.ensures.answers.departed in
     in_reading Dcbor canon d _ (c.in_ok-bytes.ensures.storable, c.in_ok-bytes.ensures.reducible) bytes.items short are written.written c.in_ok-bytes.ensures.encoded
     (λ is. c.dcbor_written_is_accepted.ensures bytes.items v (omega (arith, short)) is (numbers.0, (numbers.1, written.written)))
     c.from_slice_with.result first departed

@@ -23,7 +23,7 @@ returns-clause-read_back g c stored kept =
     let short : length bytes.items + 1 < 2 ^ 64 = omega (arith, bytes.small) in
     let are = subst AreBytes c.deref.ensures.value c.are_bytes.ensures.bytes in
     let written = c.in_ok-bytes.ensures.deterministic in
-    let every = rw c.deref-2.ensures.value at c.from_slice_with.ensures.every in
+    let every = rw c.deref-2.ensures.value at c.from_slice_with.ensures.answers.every in
     is_read _ bytes.items v short are c.in_ok-bytes.ensures.encoded
     (λ is. c.deterministic_written_is_accepted.ensures.kept bytes.items v (omega (arith, short)) is (c.shortened_has_shortest_floats.ensures _, written.written))
     c.from_slice_with.result every
@@ -36,7 +36,7 @@ returns-clause-readable g c =
     let short : length bytes.items + 1 < 2 ^ 64 = omega (arith, bytes.small) in
     let are = subst AreBytes c.deref.ensures.value c.are_bytes.ensures.bytes in
     let written = c.in_ok-bytes.ensures.deterministic in
-    let found = rw c.deref-2.ensures.value at c.from_slice_with.ensures.found in
+    let found = rw c.deref-2.ensures.value at c.from_slice_with.ensures.answers.found in
     readable Core canon d _ (c.in_ok-bytes.ensures.storable, c.in_ok-bytes.ensures.kept) bytes.items short are written.written c.in_ok-bytes.ensures.encoded
     (λ is. c.deterministic_written_is_accepted.ensures.kept bytes.items v (omega (arith, short)) is (c.shortened_has_shortest_floats.ensures _, written.written))
     c.from_slice_with.result found
@@ -49,8 +49,8 @@ returns-clause-refused g c =
     let short : length bytes.items + 1 < 2 ^ 64 = omega (arith, bytes.small) in
     let are = subst AreBytes c.deref.ensures.value c.are_bytes.ensures.bytes in
     let written = c.in_ok-bytes.ensures.deterministic in
-    let first = rw c.deref-2.ensures.value at c.from_slice_with.ensures.first in
-    let departed = rw c.deref-2.ensures.value at c.from_slice_with.ensures.departed in
+    let first = rw c.deref-2.ensures.value at c.from_slice_with.ensures.answers.first in
+    let departed = rw c.deref-2.ensures.value at c.from_slice_with.ensures.answers.departed in
     in_reading Core canon d _ (c.in_ok-bytes.ensures.storable, c.in_ok-bytes.ensures.kept) bytes.items short are written.written c.in_ok-bytes.ensures.encoded
     (λ is. c.deterministic_written_is_accepted.ensures.kept bytes.items v (omega (arith, short)) is (c.shortened_has_shortest_floats.ensures _, written.written))
     c.from_slice_with.result first departed

@@ -13,7 +13,7 @@ map_ok P Q (Err e) f h = h
 pub returns : goal.returns
 returns g c =
     let sent = c.in_ok-bytes.ensures.events in
-    let found = c.in_ok-value.ensures.found in
+    let found = c.in_ok-value.ensures.answers.found in
     record {
       canonical = map_ok (λ bytes. SpellsValues bytes.items (document_of (view c.in_ok-value.value))) (λ bytes. (log : Log) × g.T.Described.writes c.args.value.now (Some []) log × IsCanonicalOf c.args.options log bytes.items) c.to_vec.result (λ bytes canon. (
         sent.0,

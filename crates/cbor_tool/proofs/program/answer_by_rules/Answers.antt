@@ -12,7 +12,7 @@ use Rattle.cbor_tool.proofs.program.answer_by_rules.Goals as goal
 
 pub returns-in-Ok-clause-ok : goal.returns-in-Ok-clause-ok
 returns-in-Ok-clause-ok c =
-    let s = c.in-Ok.ensures.found in
+    let s = c.in-Ok.ensures.answers.found in
     let r = s.spelt.item in
     on_ok_weaker c.replace_by_hex.result
     (λ is. kept (value r) (record { item = r; acceptable = s.spelt.acceptable; spelled = s.spelt.spelled; valued = refl }) s.keeps is)
@@ -21,7 +21,7 @@ returns-in-Ok-clause-ok c =
 pub returns-in-Err-Departs-clause-ok : goal.returns-in-Err-Departs-clause-ok
 returns-in-Err-Departs-clause-ok c =
     on_ok_weaker c.replace.result
-    (λ is. departing c.in-Err-Departs.departure (rw c.in-Err-Departs.field-0-is at c.in-Err-Departs.ensures.departed)
+    (λ is. departing c.in-Err-Departs.departure (rw c.in-Err-Departs.field-0-is at c.in-Err-Departs.ensures.answers.departed)
     (is ∙ c.as_bytes.ensures.value ∙ c.in_ok-refusal-in-Err-Departs.ensures.ok))
     c.replace.ensures.ok
 
@@ -34,6 +34,6 @@ pub returns-clause-ok : goal.returns-clause-ok
 returns-clause-ok c =
     let e = c.in-Err-Unread.error in
     on_ok_weaker c.answer_error.result
-    (λ h. unread (error_text e) (λ v spelt. h.0 (rw c.in-Err-Unread.field-0-is at (c.in-Err-Unread.ensures.every v spelt)).0)
-    (ordinary_text c.args.bytes.now e (reports_of e (rw c.in-Err-Unread.field-0-is at c.in-Err-Unread.ensures.first) h.0)) h.1)
+    (λ h. unread (error_text e) (λ v spelt. h.0 (rw c.in-Err-Unread.field-0-is at (c.in-Err-Unread.ensures.answers.every v spelt)).0)
+    (ordinary_text c.args.bytes.now e (reports_of e (rw c.in-Err-Unread.field-0-is at c.in-Err-Unread.ensures.answers.first) h.0)) h.1)
     c.answer_error.ensures.ok

@@ -50,13 +50,13 @@ refused_in DiagnosePretty bs r other h = h
 refused_in (ByRules preset) bs r other h = h
 
 pub returns-in_default-clause-found : goal.returns-in_default-clause-found
-returns-in_default-clause-found c = found_in c.args.mode c.args.bytes.now c.from_slice.result c.in_default.not-Strict (found c.args.bytes.now c.from_slice.result c.from_slice.ensures.found)
+returns-in_default-clause-found c = found_in c.args.mode c.args.bytes.now c.from_slice.result c.in_default.not-Strict (found c.args.bytes.now c.from_slice.result c.from_slice.ensures.answers.found)
 
 pub returns-in_default-clause-accepted : goal.returns-in_default-clause-accepted
-returns-in_default-clause-accepted c = accepted_in c.args.mode c.args.bytes.now c.from_slice.result c.in_default.not-Strict (accepted c.args.bytes.now c.from_slice.result c.from_slice.ensures.every)
+returns-in_default-clause-accepted c = accepted_in c.args.mode c.args.bytes.now c.from_slice.result c.in_default.not-Strict (accepted c.args.bytes.now c.from_slice.result (λ v spelt. c.from_slice.ensures.answers.every v spelt tt))
 
 pub returns-in_default-clause-refused : goal.returns-in_default-clause-refused
-returns-in_default-clause-refused c = refused_in c.args.mode c.args.bytes.now c.from_slice.result c.in_default.not-Strict c.from_slice.ensures.first
+returns-in_default-clause-refused c = refused_in c.args.mode c.args.bytes.now c.from_slice.result c.in_default.not-Strict c.from_slice.ensures.answers.first
 
 pub returns-in-Strict-clause-found : goal.returns-in-Strict-clause-found
 returns-in-Strict-clause-found c = rw c.in-Strict.is c.from_slice_canonical.ensures.found

@@ -11,9 +11,9 @@ returns c =
     let w = view c.in_ok-again.again in
     let once = c.in_ok-once.once.items in
     let first = c.in_ok-once.ensures.canonical v refl in
-    let back : SpellsValue once v = first.read_back c.args.bytes.now (omega arith) (spelled_value c.args.bytes.now c.in_ok-value.value c.in_ok-value.ensures.found) in
+    let back : SpellsValue once v = first.read_back c.args.bytes.now (omega arith) (spelled_value c.args.bytes.now c.in_ok-value.value c.in_ok-value.ensures.answers.found) in
     let here : SpellsValue c.deref.result.now v = subst (λ (bs : List ℕ). SpellsValue bs v) (sym c.deref.ensures.value) back in
-    let same : w ≡ v = c.in_ok-again.ensures.every v here ∙ sym here.valued in
+    let same : w ≡ v = c.in_ok-again.ensures.answers.every v here tt ∙ sym here.valued in
     let second = c.in_ok-twice.ensures.canonical w refl in
     let twice : once ≡ c.in_ok-twice.twice.items = first.written ∙ ap canon (sym same) ∙ sym second.written in
     search (rules, twice)

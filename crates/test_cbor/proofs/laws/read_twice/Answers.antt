@@ -9,5 +9,5 @@ returns c =
     let other = c.from_slice_with_scratch-other in
     let room = Some (length c.args.scratch.now) in
     c.sources_agree.ensures None room bs one.result other.result (λ i. omega (arith, c.type_inv.bytes i)) (omega arith)
-    (reading None bs one.result one.ensures.found one.ensures.first)
-    (reading room bs other.result other.ensures.found other.ensures.first)
+    (reading None bs one.result one.ensures.answers.found one.ensures.answers.first)
+    (reading room bs other.result other.ensures.answers.found other.ensures.answers.first)

@@ -10,7 +10,7 @@ pub text_in-requires : goal.text_in-requires
 text_in-requires c =
     let bs = c.args.bytes.now in
     let value = c.in_ok-value.value in
-    (is_canonical bs (view value) (omega arith) (spelled_value bs value c.in_ok-value.ensures.found)).1
+    (is_canonical bs (view value) (omega arith) (spelled_value bs value c.in_ok-value.ensures.answers.found)).1
 
 pub returns : goal.returns
 returns c =
@@ -18,7 +18,7 @@ returns c =
     let value = c.in_ok-value.value in
     let key = c.in_ok-to_owned.field-0 in
     of_bytes bs c.args.key.now (view value) (view (Text key)) c.in_ok-found.found
-    (spelled_value bs value c.in_ok-value.ensures.found)
-    (λ w spelt. c.in_ok-value.ensures.every w spelt ∙ sym spelt.valued)
+    (spelled_value bs value c.in_ok-value.ensures.answers.found)
+    (λ w spelt. c.in_ok-value.ensures.answers.every w spelt tt ∙ sym spelt.valued)
     (view_text key ∙ ap text c.in_ok-to_owned.ensures.ok)
     c.in_ok-found.ensures
