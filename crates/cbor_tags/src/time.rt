@@ -116,7 +116,7 @@ impl Serialize for EpochTime {
 
 /// The integer or the float within tag 1.
 impl Readable for EpochTime {
-    ghost use Rattle.std.specs.Prelude.{Some};
+    ghost use Rattle.std.specs.Prelude.{Some, true};
     ghost use Rattle.cbor_model.specs.Value.{value};
     ghost use Rattle.cbor_convert.specs.Tagged.{IsTagged};
     ghost use Rattle.cbor_de.specs.Forms.{key_form};
@@ -124,6 +124,8 @@ impl Readable for EpochTime {
     ghost reads = { λ c r t. IsTagged (λ s x. IsSeconds (value s) x) r (Some 1) t };
 
     ghost wrong_forms = { key_form };
+
+    ghost reports_faults = { true };
 }
 
 impl<'de, R: Read<'de>> Deserialize<'de, R> for EpochTime {
