@@ -1,7 +1,8 @@
 //! Tests over all of `serde_cbor`: what a user knows by the public contracts alone (`laws`), a
 //! function that says by these what it finds in a map (`lookup`), a tree of a user's own that is
 //! refused, what is written to sinks of each kind, and how long it is, what values of types stand
-//! for, boxes, sets and what is lent, and a stream that goes on after a message of the wrong type.
+//! for, boxes, sets and what is lent, a stream that goes on after a message of the wrong type, and
+//! what a struct and an enum ask of a peer.
 #![tactic(auto)]
 
 #[cfg(test)]
@@ -23,6 +24,8 @@ mod literal;
 pub mod lookup;
 #[cfg(test)]
 mod messages;
+#[cfg(test)]
+mod peer;
 #[cfg(test)]
 mod sets;
 #[cfg(test)]

@@ -41,8 +41,10 @@ fn print_user(rt: &HostRuntime) -> Result<()> {
     println!(rt; "{:?}", named.as_slice())?;
     let packed = to_vec_packed(alloc, &user)?;
     println!(rt; "{:?}", packed.as_slice())?;
-    let read: User = from_reader(alloc, packed.as_slice())?;
-    println!(rt; "{read:?}")?;
+    for bytes in [&named, &packed] {
+        let read: User = from_reader(alloc, bytes.as_slice())?;
+        println!(rt; "{read:?}")?;
+    }
     Ok(())
 }
 
@@ -58,6 +60,15 @@ fn print_shape(rt: &HostRuntime) -> Result<()> {
     println!(rt; "{read:?}")?;
     let circle: Shape = from_slice(alloc, b"\x82\x01\x18\x2a")?;
     println!(rt; "{circle:?}")?;
+    for bytes in [
+        b"\x67Nothing".as_slice(),
+        b"\xa1\x66Circle\x18\x2a",
+        b"\xa1\x64Line\x82\x01\x02",
+    ] {
+        let shape: Shape = from_slice(alloc, bytes)?;
+        println!(rt; "{shape:?}")?;
+        println!(rt; "{:?}", to_vec(alloc, &shape)?.as_slice())?;
+    }
     Ok(())
 }
 
