@@ -12,8 +12,8 @@ FUNCTION = re.compile(r"( *)(pub )?(?:unsafe )?fn (\w+)")
 
 
 def contracts(path):
-    """Each public function's name, and how many lines its clauses take."""
-    lines = path.read_text().splitlines()
+    """Each public function's name, and how many lines its clauses take, without comments."""
+    lines = [re.sub(r"\s*//.*", "", it) for it in path.read_text().splitlines()]
     trait = False
     for at, line in enumerate(lines):
         if re.match(r"pub (unsafe )?trait (\w+)", line):
@@ -23,14 +23,14 @@ def contracts(path):
         function = FUNCTION.match(line)
         if not function:
             continue
-        end = next((i for i in range(at, len(lines)) if lines[i] in (function[1] + "{", function[1] + "}")
+        end = next((i for i in range(at, len(lines)) if lines[i] in (function[1] + "{", function[1] + "}", function[1] + "{}")
                     or lines[i].endswith((";", " {}")) or (i > at and FUNCTION.match(lines[i]))), len(lines) - 1)
         head = lines[at:end + 1]
         first = next((i for i, it in enumerate(head) if CLAUSE.match(it)), None)
         if first is not None:
-            last = len(head) - (1 if lines[end].strip() in ("{", "}") else 0)
+            last = len(head) - (1 if lines[end].strip() in ("{", "}", "{}") else 0)
             if function[2] or trait:
-                yield function[3], last - first
+                yield function[3], sum(bool(it.strip()) for it in head[first:last])
 
 
 def main(most):
